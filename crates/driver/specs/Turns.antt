@@ -11,6 +11,7 @@ use Rattle.meaning.specs.Answer.{answer_lines}
 use Rattle.meaning.specs.Outcome.{min_words}
 use Rattle.tree.specs.Stands.{SchemaStands, Stands}
 use Rattle.loading.specs.Promises.{Ahead}
+use Rattle.driver.specs.declared.Turn.{Turn}
 
 -- ---- Places
 
@@ -82,3 +83,7 @@ pub record Turns (f : List ℕ) (at k ceiling : ℕ) (w out : List ℕ) (page : 
   pub few : (next : ℕ) (written : Option ℕ) (visits : ℕ) → r ≡ Some (next, written, visits) → visits ≤ ceiling
   pub is : (T : Rows) (d : Described) (qs : List Ast) → Sound d → min_words ≤ length w → SchemaStands f w T d.names d.schema → Ahead f at (d.ast ∷ qs)
       → Turned f k out page w' out' r d qs (check ceiling d.schema d.ast)
+
+-- The query whose turn it is.
+abbrev pub TakesTurn : List ℕ → Turn → ℕ → List ℕ → List ℕ → List ℕ → List ℕ → Option (ℕ × Option ℕ × ℕ) → Type 0
+TakesTurn f turn ceiling w out w' out' r = Turns f turn.at turn.k ceiling w out turn.page w' out' r

@@ -5,7 +5,7 @@ ghost use Rattle.std.specs.Prelude.{[], ◌∷◌, ◌≡◌, ◌-◌, ◌<◌, 
 ghost use Rattle.format.specs.Refusal.{number};
 ghost use Rattle.format.specs.Bytes.{hex_line};
 ghost use Rattle.reading.specs.Promises.{refusal};
-ghost use Rattle.driver.specs.Turns.{OneOfSeveral, WritesHeading, Place, AnswersQuery, Turns};
+ghost use Rattle.driver.specs.Turns.{OneOfSeveral, WritesHeading, Place, AnswersQuery, TakesTurn};
 ghost use Rattle.driver.specs.At.{stop_at};
 ghost use Rattle.driver.specs.Promises.{RunsQueries, RunsFile, Clears, ChecksFile, ChecksAt};
 
@@ -82,7 +82,7 @@ fn one_query(
     work: &mut [u32],
     out: &mut [u8],
 ) -> Option<(usize, Option<usize>, u32)>
-    ensures { Turns file.now turn.at turn.k ceiling work.old out.old turn.page work.new out.new result }
+    ensures { TakesTurn file.now turn ceiling work.old out.old work.new out.new result }
 {
     let next = loading::load(file, turn.at, work);
     let head = heading(out, turn, next, file.len());
