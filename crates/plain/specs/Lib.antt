@@ -1,3 +1,4 @@
 pub mod Slices
 pub mod Tokens
 pub mod Stages
+pub mod Gives

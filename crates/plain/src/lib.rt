@@ -2,12 +2,11 @@
 // Nothing of `unify` is called.
 #![tactic(auto)]
 
-ghost use Rattle.std.specs.Prelude.{List, [], ◌∷◌, ◌++◌, ◌≡◌, ◌+◌, ◌<◌, ◌≤◌, length, drop, MatchOption, None, Some};
-ghost use Rattle.unification.specs.Robinson.{Equation};
-ghost use Rattle.plain_theory.specs.Words.{pairs_spelled};
+ghost use Rattle.std.specs.Prelude.{List, [], ◌∷◌, ◌++◌, ◌≡◌, ◌+◌, ◌<◌, ◌≤◌, length, drop, MatchOption};
 ghost use Rattle.writer.specs.Writes.{Writes};
-ghost use Rattle.plain.specs.Tokens.{short, is_unknown, owed, instead_of, swapped, among, behind, NoType, FirstType, NoCell, FirstCell, KeyAbsent, FoundAt, FirstUnlike, FirstAlike, Alike, Pairs, NoUnknown, NoNode};
-ghost use Rattle.plain.specs.Stages.{PairedRows, TellsBound, TellsApart, TellsNext, Lays, StaysInside, PlainTurned, half, PlainRuns};
+ghost use Rattle.plain.specs.Tokens.{short, is_unknown, owed, instead_of, swapped, among, NoType, FirstType, NoCell, FirstCell, Alike, Pairs, NoUnknown};
+ghost use Rattle.plain.specs.Gives.{GoesBehind, FindsCell, PassesAlike, TellsNode};
+ghost use Rattle.plain.specs.Stages.{TellsBound, TellsApart, TellsNext, BindLays, SplitLays, StaysInside, PlainTurned, half, PlainRuns};
 
 use work::wide;
 use writer::{copy, one, two};
@@ -121,7 +120,7 @@ fn owed_by(a: u32, b: u32) -> usize
 
 // What is left after so many types or cells. Each token may owe more, so how many there are only the loop finds.
 fn behind(ws: &[u32], n: usize) -> Option<&[u32]>
-    ensures { MatchOption result (behind ws.now n ≡ None) (λ rest. behind ws.now n ≡ Some rest.now) }
+    ensures { GoesBehind ws.now n result }
 {
     let mut rest = ws;
     let mut owes = n;
@@ -186,7 +185,7 @@ fn first_cell(row: &[u32]) -> Option<Cell<'_>>
 
 // The first cell with this key. Where a cell ends its type says: std's `find` has nothing to go over.
 fn find(row: &[u32], n: u32, key: u32) -> Option<Cell<'_>>
-    ensures { MatchOption result (KeyAbsent row.now n key) (λ c. FoundAt row.now n key c.label c.ty.now) }
+    ensures { FindsCell row.now n key result }
 {
     let mut rest = row;
     for _ in 0..n {
@@ -217,7 +216,7 @@ fn alike(n: u32, left: &[u32], right: &[u32]) -> bool
 
 // The row behind its first cell, if that has its cell in the other row.
 fn past_alike<'a>(n: u32, row: &'a [u32], other: &[u32]) -> Option<&'a [u32]>
-    ensures { MatchOption result (FirstUnlike n row.now other.now) (λ rest. FirstAlike n row.now other.now rest.now) }
+    ensures { PassesAlike n row.now other.now result }
 {
     let cell = first_cell(row)?;
     let partner = find(other, n, cell.key)?;
@@ -269,7 +268,7 @@ fn unknown(ty: &[u32]) -> Option<u32>
 
 // The kind of a record or a union, how many cells it has, and their words.
 fn node(ty: &[u32]) -> Option<(u32, u32, &[u32])>
-    ensures { MatchOption result (NoNode ty.now) (λ p. (5 ≤ p.0) × (p.0 ≤ 6) × (ty.now ≡ p.0 ∷ p.1 ∷ p.2.now)) }
+    ensures { TellsNode ty.now result }
 {
     let [kind, n, cells @ ..] = ty else {
         return None;
@@ -344,7 +343,7 @@ fn bind(
     x: u32,
     ts: &[u32],
 ) -> Option<(usize, usize)>
-    ensures lays { Lays (11 ∷ x ∷ (ts.now ++ swapped x ts.now bindings.now)) (swapped x ts.now pairs.now) out.old out.new result }
+    ensures lays { BindLays bindings.now out.old out.new x ts.now pairs.now result }
     ensures stays { StaysInside out.old out.new result }
 {
     let at = two(out, 0, BINDING, x)?;
@@ -363,7 +362,7 @@ fn split(
     right: &[u32],
     pairs: &[u32],
 ) -> Option<(usize, usize)>
-    ensures lays { (qs : List Equation) → PairedRows n left.now right.now qs → Lays bindings.now (pairs_spelled qs ++ pairs.now) out.old out.new result }
+    ensures lays { SplitLays bindings.now out.old out.new n left.now right.now pairs.now result }
     ensures stays { StaysInside out.old out.new result }
 {
     let b = copy(out, 0, bindings)?;
