@@ -3,3 +3,5 @@ pub mod Parts
 pub mod Prints
 pub mod Promises
 pub mod Marks
+pub mod Digits
+pub mod OfLines

@@ -3,6 +3,7 @@
 use Rattle.std.specs.Prelude.{Bool, ltb, ◌&&◌, List, [], ◌∷◌, ◌++◌, map, ℕ, ◌+◌, ◌*◌}
 use Rattle.cells.specs.declared.Kind.{Kind}
 use Rattle.cells.specs.declared.Kind.TheVariants.{Fields, Alternatives}
+use Rattle.format.specs.Conditions.{all_below}
 use Rattle.frames.specs.Promises.{half_w, full_w}
 
 -- how many bytes a part has, and the shape byte before the parts
@@ -41,6 +42,10 @@ types_of k parts = map (λ p. type_w k p 0) parts
 -- the part's name and its type are numbers below these
 abbrev pub is_early : Kind → ℕ → ℕ → List ℕ → Bool
 is_early k names types p = ltb (half_w p 0) names && ltb (type_w k p 0) types
+
+-- and each part's
+abbrev pub are_early : Kind → ℕ → ℕ → List (List ℕ) → Bool
+are_early k names types parts = all_below names (names_of parts) && all_below types (types_of k parts)
 
 abbrev pub keys_of : Kind → List (List ℕ) → List ℕ
 keys_of k parts = map (λ p. key_w k p 0) parts

@@ -4,13 +4,16 @@
 ghost use Rattle.std.specs.Prelude.{◌≡◌, ℕ, ◌+◌, ◌*◌, ◌<◌, ◌≤◌, length, take, drop, IfSome};
 ghost use Rattle.format.specs.Frame.{limits};
 ghost use Rattle.frames.specs.Promises.{kind_meant, edition_of};
-ghost use Rattle.reading.specs.Promises.{InEither, TakesAnywhere, full_of, past_of, TakesLine, counted, TakesLines, ReadsFile, Reads};
+ghost use Rattle.reading.specs.OfLines.{TakesLineOf};
+ghost use Rattle.reading.specs.Promises.{InEither, TakesAnywhere, full_of, past_of, counted, TakesLines, ReadsFile, Reads};
 
+mod decoded;
 mod names;
 mod nodes;
 mod parts;
 mod types;
 
+use decoded::Line;
 pub use frames::Edition;
 use frames::Kind;
 pub use work::Counters;
@@ -36,27 +39,6 @@ pub enum Refusal {
     TallyTooLarge = 15,
     CeilingPassed = 16,
     OutsideTheRules = 17,
-}
-
-// A line of the file, decoded, and where it starts.
-#[derive(Clone, Copy)]
-struct Line<'a> {
-    file: &'a [u8],
-    at: usize,
-    bytes: &'a [u8],
-    ghost placed: { at < 65536 },
-    ghost some: { 0 < length bytes.now },
-    ghost short: { length bytes.now ≤ 512 },
-    ghost within: { at + 2 * length bytes.now < length file.now },
-}
-
-impl<'a> Line<'a> {
-    // Its digits, and the end of the line, as they stand in the file.
-    fn digits(self) -> &'a [u8]
-        ensures { result.now ≡ take (2 * length self.entry.bytes.now + 1) (drop self.entry.at self.entry.file.now) }
-    {
-        &self.file[self.at..=self.at + 2 * self.bytes.len()]
-    }
 }
 
 // Whether one more of this kind is too many. Each kind is counted in a field of its own, so an arm tells which.
@@ -102,7 +84,7 @@ fn take_line(
     edition: Edition,
 ) -> Result<Counters, Refusal>
     requires { (c.names ≤ 256) × (c.types ≤ 256) × (c.fields ≤ 8192) }
-    ensures { TakesLine (edition_of edition) line.entry.file.now line.entry.at line.entry.bytes.now w.old prints.old c previous kind w.new prints.new result }
+    ensures { TakesLineOf line.entry edition previous kind w.old prints.old c w.new prints.new result }
 {
     if !frames::may_stand(previous, Some(kind)) {
         return Err(Refusal::MisplacedKind);

@@ -2,9 +2,10 @@
 ghost use Rattle.std.specs.Prelude.{◌≡◌, ℕ, ◌+◌, ◌<◌, ◌≤◌, ◌↔◌, IsTrue, length, get_or, drop};
 ghost use Rattle.frames.specs.Promises.{full_w};
 ghost use Rattle.reading.specs.Prints.{print_of};
-ghost use Rattle.reading.specs.Promises.{GivenBefore, InEither, TakesName};
+ghost use Rattle.reading.specs.OfLines.{GivenBeforeIn, TakesNameOf};
 
-use crate::{Counters, Line, Refusal};
+use crate::decoded::Line;
+use crate::{Counters, Refusal};
 use work::{name_place, name_word, put, wide, word};
 
 // 2^32 by the golden ratio: products of numbers that are near one another lie far apart.
@@ -53,7 +54,7 @@ fn none_has(prints: &[u16; 256], i: usize, print: u16) -> bool
 #[inline(never)]
 fn given_before(line: Line, w: &[u32], prints: &[u16; 256], names: u32, print: u16) -> bool
     requires { (names < 256) × (print ≡ print_of (drop 1 line.bytes.now)) }
-    ensures { GivenBefore line.entry.file.now line.entry.at line.entry.bytes.now w.now prints.now names result }
+    ensures { GivenBeforeIn line.entry w.now prints.now names result }
 {
     let names = wide(names);
     let digits = line.digits();
@@ -83,7 +84,7 @@ pub fn take_name(
     c: Counters,
 ) -> Result<Counters, Refusal>
     requires { c.names < 256 }
-    ensures { InEither (λ e. TakesName e line.entry.file.now line.entry.at line.entry.bytes.now w.old prints.old c w.new prints.new result) }
+    ensures { TakesNameOf line.entry w.old prints.old c w.new prints.new result }
 {
     let text = &line.bytes[1..];
     let chars = text::characters(text).ok_or(Refusal::BrokenText)?;

@@ -1,11 +1,13 @@
 // Node and query lines: what they name.
 ghost use Rattle.std.specs.Prelude.{◌≡◌, ℕ, ◌+◌, ◌<◌, ◌≤◌, length, drop, ltb};
 ghost use Rattle.format.specs.Frame.{node, query};
-ghost use Rattle.reading.specs.Promises.{InEither, TakesAnywhere, TakesThere};
+ghost use Rattle.reading.specs.Promises.{InEither, TakesAnywhere};
+ghost use Rattle.reading.specs.OfLines.{TakesNodeOf};
 ghost use Rattle.frames.specs.Promises.{edition_of};
 ghost use Rattle.reading.specs.Marks.{ToldWhether, NamesNode, NamesFields, NamesItems, NamesStatements, NamesAll};
 
-use crate::{Counters, Line, Refusal};
+use crate::decoded::Line;
+use crate::{Counters, Refusal};
 use frames::{Edition, byte, half, reference_size};
 use work::{is_named, node_word, put, wide, word};
 
@@ -113,7 +115,7 @@ pub fn take_node(
     edition: Edition,
 ) -> Result<Counters, Refusal>
     requires { (10 ≤ length line.bytes.now) × (c.nodes < 512) }
-    ensures { TakesThere (edition_of edition) line.entry.at node line.entry.bytes.now w.old c w.new result }
+    ensures { TakesNodeOf line.entry edition w.old c w.new result }
 {
     name_all(line.bytes, w, c, edition)?;
     put(

@@ -1,13 +1,13 @@
 // The parts of record and union types, each by its bytes in the line.
-ghost use Rattle.std.specs.Prelude.{◌&&◌, ◌≡◌, ℕ, List, ◌+◌, ◌<◌, ◌≤◌, length, not, map, eqb, [], refl};
+ghost use Rattle.std.specs.Prelude.{◌≡◌, ℕ, List, ◌+◌, ◌<◌, ◌≤◌, length, not, map, eqb, [], refl};
 ghost use Rattle.std.proofs.lemmas.List.Edits.{sets};
 ghost use Rattle.work.specs.Layout.{FIELDS};
 ghost use Rattle.cells.specs.declared.Kind.{Kind};
 ghost use Rattle.cells.specs.declared.Kind.TheVariants.{Fields, Alternatives};
 ghost use Rattle.cells.specs.Stands.{tag_of, part_words};
-ghost use Rattle.format.specs.Conditions.{all_below, among, again};
+ghost use Rattle.format.specs.Conditions.{among, again};
 ghost use Rattle.frames.specs.Promises.{half_w, full_w};
-ghost use Rattle.reading.specs.Parts.{size_of, words_w, names_of, types_of, is_early, keys_of, words_of};
+ghost use Rattle.reading.specs.Parts.{size_of, words_w, names_of, is_early, are_early, keys_of, words_of};
 
 use frames::{full, half};
 use reader::{Alternative, Field};
@@ -128,7 +128,7 @@ pub fn are_earlier<const SIZE: usize, P: Part<SIZE>>(
     names: u32,
     types: u32,
 ) -> bool
-    ensures { result ≡ (all_below names (names_of parts.now) && all_below types (types_of P.kind parts.now)) }
+    ensures { result ≡ are_early P.kind names types parts.now }
 {
     parts.iter().all(
         |bytes|
