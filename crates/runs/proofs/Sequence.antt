@@ -22,7 +22,7 @@ use Rattle.state.proofs.Standing.{schema_stands}
 use Rattle.loading.specs.Promises.{Ahead, Loads}
 use Rattle.loading.proofs.Lines.{all_ahead}
 use Rattle.runs.specs.Beginning.{SameSchema, AfterReading}
-use Rattle.runs.specs.Sequence.{Between, after_reading, after_query, QueryCalls, EachCalls}
+use Rattle.runs.specs.Sequence.{AfterQueries, after_reading, after_query, QueryCalls, EachCalls}
 use Rattle.runs.proofs.Beginning.{run_begins}
 use Rattle.runs.proofs.CodeRan.{code_ran}
 
@@ -41,7 +41,7 @@ module _ {f w : List ℕ} {form : Form} (A : AfterReading f w form) (is : readin
   unfolding view_at view_of
   query_there {k} {at} K p = subst (Ahead f at) (drop-cons form.queries k no_ast p) (K.ahead (omega arith))
 
-  kept : {k at : ℕ} {v : List ℕ} → Between f w k at v → Kept k at v
+  kept : {k at : ℕ} {v : List ℕ} → AfterQueries f w k at v → Kept k at v
   kept after_reading = record {
     same = λ i lt m n. refl;
     parts = λ i lo hi. refl;

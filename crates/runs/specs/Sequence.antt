@@ -14,10 +14,10 @@ use Rattle.runs.specs.CodeRan.{CodeRan}
 -- From the words that the reading left to those that k queries left, with the place in the file where the next one's lines start, as the whole
 -- call goes (`all_queries` of crates/driver): a query is loaded and its run made, under whatever ceiling and into whatever answer slice, and
 -- where visits are left the next one's turn comes.
-pub data Between (f w : List ℕ) : ℕ → ℕ → List ℕ → Type 0 where
-  after_reading : Between f w zero 0 w
-  after_query : {k at next ceiling left : ℕ} {v v₁ v₂ out out' : List ℕ} {u : Until} → Between f w k at v → Loads f at v v₁ next
-      → Queries f v₁ out u ceiling v₂ out' (Some left) → Between f w (suc k) next v₂
+pub data AfterQueries (f w : List ℕ) : ℕ → ℕ → List ℕ → Type 0 where
+  after_reading : AfterQueries f w zero 0 w
+  after_query : {k at next ceiling left : ℕ} {v v₁ v₂ out out' : List ℕ} {u : Until} → AfterQueries f w k at v → Loads f at v v₁ next
+      → Queries f v₁ out u ceiling v₂ out' (Some left) → AfterQueries f w (suc k) next v₂
 
 -- The turn of a query from these words on. When its run begins, after `load` and `begin`, so does a list of the code's calls, on the schema
 -- types that the reading left; and after its run the words stand for where that list has led.
@@ -29,4 +29,4 @@ pub record QueryCalls (f v : List ℕ) (at : ℕ) (rows : Rows) (d : Described) 
 
 -- So it is of each query of a form, the first and every later one.
 abbrev pub EachCalls : List ℕ → List ℕ → Rows → Form → Type 0
-EachCalls f w rows form = (k at : ℕ) (v : List ℕ) → Between f w k at v → k < length form.queries → QueryCalls f v at rows (view_at form k)
+EachCalls f w rows form = (k at : ℕ) (v : List ℕ) → AfterQueries f w k at v → k < length form.queries → QueryCalls f v at rows (view_at form k)
