@@ -49,14 +49,18 @@ fn is_closed(file: &[u8], n: usize, end: usize) -> bool
     0 < n && file.get(end) == Some(&b'\n')
 }
 
+// Bytes of a line at most. It is `Counters::LINE` of crate work, on which this crate does not stand: callers lend an
+// array of that length, and of another length it would not be this one's type.
+const LINE: usize = 512;
+
 // The line at a place, decoded into `line`: how many bytes it has, and where the next one starts; none under condition
 // 3, and past the end. How many pairs there are at most is asked once, so that no pair is tested for the file's end or
 // the line's: by places, as over `chunks(2)` the reading of a file took 3 to 8 % longer. Eight pairs at a time, which
 // takes a quarter of the instructions, up to the first that is none; pair by pair near the end of the file or the line.
-pub fn decode(file: &[u8], at: usize, line: &mut [u8; 512]) -> Option<(usize, usize)>
+pub fn decode(file: &[u8], at: usize, line: &mut [u8; LINE]) -> Option<(usize, usize)>
     ensures { Decodes file.now at line.new result }
 {
-    let most = (file.len().saturating_sub(at) / 2).min(512);
+    let most = (file.len().saturating_sub(at) / 2).min(LINE);
     let mut n = 0;
     while n + 8 <= most {
         let pairs = eight(file, at + 2 * n, &mut line[n..n + 8]);
@@ -105,7 +109,7 @@ pub fn pass(file: &[u8], at: usize) -> Option<(u8, usize, usize)>
         return None;
     }
     let kind = pair(file, at)?;
-    let end = file.len().min(at + 1025);
+    let end = file.len().min(at + 2 * LINE + 1);
     let mut i = at + 2;
     while 16 <= end.saturating_sub(i) && none_ends(file, i) {
         i += 16;

@@ -77,7 +77,7 @@ fn take_limits(s: &[u8], w: &mut [u32], c: Counters) -> Result<Counters, Refusal
 fn take_line(
     line: Line,
     w: &mut [u32],
-    prints: &mut [u16; 256],
+    prints: &mut [u16; Counters::NAMES as usize],
     c: Counters,
     previous: Option<Kind>,
     kind: Kind,

@@ -38,7 +38,7 @@ fn print_of(s: &[u8]) -> u16
 }
 
 // Whether none of sixteen prints is this. It goes on where one is, so that the processor compares all at once.
-fn none_has(prints: &[u16; 256], i: usize, print: u16) -> bool
+fn none_has(prints: &[u16; Counters::NAMES as usize], i: usize, print: u16) -> bool
     requires { i + 16 ≤ length prints.now }
     ensures { IsTrue result ↔ ((k : ℕ) → k < 16 → ¬ (get_or prints.now (i + k) 0 ≡ print)) }
 {
@@ -52,7 +52,13 @@ fn none_has(prints: &[u16; 256], i: usize, print: u16) -> bool
 // The line's text has this print. Only names with the same are compared with it, and most blocks of sixteen have none:
 // an earlier name costs one instruction. Out of line, so that the loop over the blocks keeps its registers.
 #[inline(never)]
-fn given_before(line: Line, w: &[u32], prints: &[u16; 256], names: u32, print: u16) -> bool
+fn given_before(
+    line: Line,
+    w: &[u32],
+    prints: &[u16; Counters::NAMES as usize],
+    names: u32,
+    print: u16,
+) -> bool
     requires { (names < 256) × (print ≡ print_of (drop 1 line.bytes.now)) }
     ensures { GivenBeforeIn line.entry w.now prints.now names result }
 {
@@ -80,7 +86,7 @@ fn given_before(line: Line, w: &[u32], prints: &[u16; 256], names: u32, print: u
 pub fn take_name(
     line: Line,
     w: &mut [u32],
-    prints: &mut [u16; 256],
+    prints: &mut [u16; Counters::NAMES as usize],
     c: Counters,
 ) -> Result<Counters, Refusal>
     requires { c.names < 256 }

@@ -130,19 +130,22 @@ impl Run<'_> {
 
 // ---- The lines of the diagnostics, in the answer slice
 
+// How many values a word has.
+const WORD_VALUES: usize = 4_294_967_296;
+
 // Where the next line goes.
 pub fn place(w: &[u32]) -> usize
     ensures { result ≡ place_w w.now }
 {
-    wide(word(w, work::PLACE)) + wide(word(w, work::PLACE_HIGH)) * 4294967296
+    wide(word(w, work::PLACE)) + wide(word(w, work::PLACE_HIGH)) * WORD_VALUES
 }
 
 // Both parts fit a word; `try_from` would give a Result that is never an Err.
 fn set_place(w: &mut [u32], at: usize)
     ensures { w.new ≡ set_place_w w.old at }
 {
-    put(w, work::PLACE, (at % 4294967296) as u32);
-    put(w, work::PLACE_HIGH, (at / 4294967296) as u32);
+    put(w, work::PLACE, (at % WORD_VALUES) as u32);
+    put(w, work::PLACE_HIGH, (at / WORD_VALUES) as u32);
 }
 
 // `Until` in two words, and out of them: the slice holds words alone.
@@ -284,32 +287,40 @@ fn keep_sides(w: &mut [u32], got: Ty, expected: Ty, left: u32)
 
 // ---- Variables
 
+// The units of an entry's parts in its word, below them the unknown: the node that made it, and above it the variable.
+const MAKER: u32 = Counters::UNKNOWNS;
+
+const SYMBOL: u32 = MAKER * Counters::NODES;
+
+// How many variables have room there.
+const SYMBOLS: u32 = 16384;
+
 // An entry in a word: the variable, the node that made it, and the unknown. A word it stays where it is found: a search
 // asks for the variable alone, and `mark` and `leave_entry` for the two others.
 fn entry(symbol: u32, node: u32, var: u32) -> u32
     requires { (symbol < 16384) × (node < 512) × (var < 512) }
     ensures { result ≡ symbol * 262144 + (node * 512 + var) }
 {
-    symbol * 262144 + (node * 512 + var)
+    symbol * SYMBOL + (node * MAKER + var)
 }
 
 // Each part by its own name: one function over the size would call them high and low.
 fn symbol_of(e: u32) -> u32
     ensures { result ≡ (entry_w e).symbol }
 {
-    e / 262144
+    e / SYMBOL
 }
 
 fn maker_of(e: u32) -> u32
     ensures { result ≡ (entry_w e).maker }
 {
-    e / 512 % 512
+    e / MAKER % Counters::NODES
 }
 
 fn unknown_of(e: u32) -> u32
     ensures { result ≡ (entry_w e).unknown }
 {
-    e % 512
+    e % MAKER
 }
 
 // So many entries are passed over at once where none is the variable's.
@@ -370,7 +381,7 @@ pub fn lookup(w: &[u32], symbol: u32) -> Option<u32>
 fn push_env(w: &mut [u32], node: u32, symbol: u32, var: u32)
     ensures { w.new ≡ push_env_w w.old node symbol var }
 {
-    if symbol < 16384 && node < 512 && var < 512 {
+    if symbol < SYMBOLS && node < Counters::NODES && var < Counters::UNKNOWNS {
         let e = entry(symbol, node, var);
         work::push(w, work::ENV, work::ENV_LEN, Counters::ENTRIES, e);
     }

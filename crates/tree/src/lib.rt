@@ -8,7 +8,7 @@ ghost use Rattle.tree.specs.Nodes.{lower_w, full_at, field_w, item_w, stmt_w, st
 mod items;
 
 pub use items::{Items, Stmts};
-use work::{line_place, line_size, node_line, wide, word};
+use work::{Counters, line_place, line_size, node_line, wide, word};
 
 // A digit's value, and 16 for any other byte, which a file that was read has not: `hex_byte` adds up both digits, and
 // of an Option it would make a number again.
@@ -226,6 +226,6 @@ pub fn query_body(w: &[u32]) -> Stmts
     Stmts {
         at: start + 6,
         end: start + 2 * wide(line_size(x)),
-        below: 512,
+        below: Counters::NODES,
     }
 }
