@@ -3,8 +3,8 @@ use mathlib.Core.Path.{refl}
 use native.Mathlib.Decide.{ℕ_discrete}
 use Rattle.unification.specs.Bindings as Bindings
 use Rattle.unification.specs.Unify as Unify
-use Rattle.meaning.specs.Table.{examples, own_examples, message_examples, unused_examples, forms, refusals, limits_of, holds, TableRows, end, ◌then◌}
-use Rattle.meaning.specs.Table.{short_wholes, ends}
+use Rattle.meaning.specs.Table.{examples, own_examples, shape_examples, message_examples, unused_examples, forms, refusals, limits_of, holds, TableRows}
+use Rattle.meaning.specs.Table.{end, ◌then◌, short_wholes, ends}
 
 -- Document 01's list.
 pub table : TableRows holds examples
@@ -59,6 +59,37 @@ own_examples_lem =
     -- 65,536 is not predicate 0
     refl then
     -- all 32 bits of a type's number
+    refl then
+    end
+
+-- Each shape, each statement, each arm.
+pub shape_examples_lem : TableRows holds shape_examples
+unfolding shape_examples holds ℕ_discrete Bindings.fresh Bindings.fresh_id Bindings.annotate Bindings.snapshot Bindings.rollback Bindings.zonk Unify.unify
+    Unify.orderable
+shape_examples_lem =
+    -- the left of `=`
+    refl then
+    -- the left of `!=`
+    refl then
+    -- comparisons
+    refl then
+    -- strings, never, arithmetic
+    refl then
+    -- statements generate
+    refl then
+    -- statements in brackets
+    refl then
+    -- records taken apart
+    refl then
+    -- selects
+    refl then
+    -- values and fields
+    refl then
+    -- patterns beside a declared type
+    refl then
+    -- what unification compares
+    refl then
+    -- a term at the limit
     refl then
     end
 
