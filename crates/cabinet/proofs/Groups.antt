@@ -1,11 +1,14 @@
 -- What a valid group is sure of, and that charging a ceiling and a new day leave it valid.
-use Rattle.std.proofs.Common.{List, length, get_or, take, sum_by, ◌≡◌, refl, ℕ, ◌+◌, ◌-◌, ◌<◌, ◌≤◌, min, arith}
+use Rattle.std.proofs.Common.{List, length, get_or, set, take, sum_by, ◌≡◌, refl, ap, ◌∙◌, ℕ, suc, ◌+◌, ◌-◌, ◌<◌, ◌≤◌, min, arith}
+use Rattle.std.proofs.lemmas.List.{length-set, set-set, set-get_or, get_or-set_same, get_or-set_other}
+use native.Mathlib.Decide.{dec_le}
 use Rattle.std.proofs.lemmas.Grind.{common_steps}
 use Rattle.std.proofs.lemmas.Bool.Decides.{nat_tests}
 use Rattle.cabinet.specs.declared.Desk.{Desk}
 use Rattle.cabinet.specs.declared.Group.{Group}
 use Rattle.cabinet.specs.Cabinet.{absent, desk, total, larger, but, Rules, Valid, ceiling_of, charged, rested, set_up}
 use Rattle.cabinet.specs.Promises.{AllowedShares}
+use Rattle.cabinet.specs.Days.{UsedMore}
 use Rattle.cabinet.proofs.Totals.{total_same, total_split, total_taken}
 use Rattle.cabinet.proofs.Places.{get_or-places}
 
@@ -36,12 +39,36 @@ record Grown (visits : ℕ) (d d' : Desk) : Type 0 where
   cap : d'.cap ≡ d.cap
   used : d'.used ≤ d.used + visits
 
+pub charged_none : (g : Group) (d : ℕ) → charged g d 0 ≡ g
+charged_none g d =
+    let none : record { share = (desk g d).share; cap = (desk g d).cap; used = (desk g d).used + 0 } ≡ desk g d = grind (arith, common_steps) in
+    ap (λ (l : List Desk). record { count = g.count; pool = g.pool; desks = l }) (ap (set g.desks d) none ∙ set-get_or g.desks d absent)
+
 module _ (g : Group) (d visits : ℕ) where
   grown : (i : ℕ) → Grown visits (desk g i) (desk (charged g d visits) i)
   grown i = record { share = grind (arith, common_steps); cap = grind (arith, common_steps); used = grind (arith, common_steps) }
 
   others_stay : others (charged g d visits) d ≡ others g d
   others_stay = total_same _ _ g.count (λ i l. grind (arith, nat_tests, common_steps))
+
+  -- The desk's use is what it was and the visits, and nothing else has changed.
+  pub used_more : UsedMore g d visits (charged g d visits)
+  used_more = record {
+    count = refl;
+    pool = refl;
+    long = length-set g.desks d _;
+    its = λ at. get_or-set_same g.desks d _ absent at;
+    others = λ i n. get_or-set_other g.desks d i _ absent n;
+  }
+
+  -- One charge after another is one of both.
+  pub charged_more : (more : ℕ) → charged (charged g d visits) d more ≡ charged g d (visits + more)
+  charged_more more = elim (dec_le (suc d) (length g.desks)) [
+    | yes at ↦
+        ap (λ (l : List Desk). record { count = g.count; pool = g.pool; desks = l })
+        (set-set g.desks d _ _ ∙ ap (λ e. set g.desks d e) (grind (arith, common_steps)))
+    | no far ↦ ap (λ (l : List Desk). record { count = g.count; pool = g.pool; desks = l }) (grind (arith, common_steps))
+  ]
 
   pub charged_valid : Valid g → d < g.count → visits ≤ ceiling_of g d → Valid (charged g d visits)
   charged_valid v at l = record {

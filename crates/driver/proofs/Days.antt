@@ -2,19 +2,21 @@
 -- cabinet's (`LedToGroup`); and what ends within a ceiling ends alike within that of document 01.
 use mathlib.Core.List.{List, [], ◌∷◌}
 use mathlib.Core.Path.{◌≡◌, refl, sym, ap, subst, ◌∙◌}
-use Prim.Native.Nat.{ℕ, ◌<◌, ◌≤◌}
+use Prim.Native.Nat.{ℕ, ◌+◌, ◌<◌, ◌≤◌}
 use native.Mathlib.Omega.{arith}
-use borrow.Author.Tests.{ltb-true, ltb-false}
-use lib.Dec.{ltb}
+use borrow.Author.Tests.{eqb-true, eqb-false, ltb-true, ltb-false}
+use lib.Dec.{eqb, ltb}
 use lib.ListN.{length}
 use Rattle.cabinet.specs.declared.Account.{Account}
 use Rattle.cabinet.specs.declared.Group.{Group}
-use Rattle.cabinet.specs.Cabinet.{ceiling_of, charged}
+use Rattle.cabinet.specs.declared.Desk.{Desk}
+use Rattle.cabinet.specs.Cabinet.{desk, ceiling_of, charged}
 use Rattle.cabinet.specs.Promises.{DeskOf}
 use Rattle.cabinet.specs.Accounts.{ceiling_in, charged_to, group_in}
 use Rattle.cabinet.specs.Days.{LedToGroup, Assured}
 use Rattle.cabinet.specs.Days as Cabinet
 use Rattle.cabinet.proofs.Days.{always, assured}
+use Rattle.cabinet.proofs.Places.{length-places, get_or-places}
 use Rattle.format.specs.Refusal.{Refusal, work_too_short}
 use Rattle.format.specs.Syntax.{Ast}
 use Rattle.format.specs.Schema.{Schema}
@@ -27,8 +29,9 @@ use Rattle.format.proofs.Tests.{cases}
 use Rattle.laws.proofs.Run.{more_visits_lem, more_needed, within}
 use Rattle.driver.specs.At.{End, all, stopped, first, after, run_at, decide_end, decide_read_at, decide_at, desk_account}
 use Rattle.driver.specs.Desks.{Stops}
-use Rattle.driver.specs.Days.{Days, set_up_lem, check_at_lem, new_day, ShortOf}
-use Rattle.std.specs.Prelude.{Option, Some}
+use Rattle.driver.specs.Days.{Days, set_up_lem, check_at_lem, new_day, Paid, Day, charge_of, UsesAddUp, ShortOf}
+use Rattle.std.specs.Prelude.{Option, Some, sum_by}
+use Rattle.std.proofs.lemmas.List.Sums.{sum_by-cons}
 
 low : (a : Account) → ceiling_in a ≤ max_visits
 unfolding max_visits
@@ -73,6 +76,37 @@ led (new_day days r s) = Cabinet.new_day (led days) r s
 -- "whatever the others do": of every group that calls lead to.
 pub days_assured : {g : Group} → Days g → Assured g
 days_assured days = assured (led days)
+
+-- ---- The uses of a day
+
+-- The list of the desks keeps its length, and each has used what its calls were charged.
+used_so : {g : Group} {ps : List Paid} → Day g ps → (length g.desks ≡ 16) × ((d : ℕ) → d < 16 → (desk g d).used ≡ sum_by (charge_of d) ps)
+used_so (Day.set_up_lem pool shares caps s) = rw s.made (length-places _ 16, λ d l. ap Desk.used (get_or-places _ 16 d l))
+used_so (Day.new_day s) = rw s.rests (length-places _ 16, λ d l. ap Desk.used (get_or-places _ 16 d l))
+used_so (Day.check_at_lem {g} {ps} day e f w out w' out' r c) = go (used_so day)
+  where
+    last : Paid
+    last = record { desk = e; charge = c.pays.charge }
+
+    go : (length g.desks ≡ 16) × ((d : ℕ) → d < 16 → (desk g d).used ≡ sum_by (charge_of d) ps)
+        → (length r.group.desks ≡ 16) × ((d : ℕ) → d < 16 → (desk r.group d).used ≡ sum_by (charge_of d) (last ∷ ps))
+    go h = (
+      c.pays.used.long ∙ h.0,
+      λ d l. cases (eqb e d)
+          (λ q.
+          let same = eqb-true e d q in
+          let mine : charge_of d last ≡ c.pays.charge = rw (q, charge_of) in
+          let its : (desk r.group e).used ≡ (desk g e).used + c.pays.charge = ap Desk.used (c.pays.used.its (omega (arith, h.0, same))) in
+          let here = subst (λ i. (desk r.group i).used ≡ (desk g i).used + c.pays.charge) same its in
+          omega (arith, sum_by-cons (charge_of d) last ps, mine, here, h.1 d l))
+          (λ q.
+          let none : charge_of d last ≡ 0 = rw (q, charge_of) in
+          let stays : (desk r.group d).used ≡ (desk g d).used = ap Desk.used (c.pays.used.others d (λ k. eqb-false e d q (sym k))) in
+          omega (arith, sum_by-cons (charge_of d) last ps, none, stays, h.1 d l)),
+    )
+
+pub uses_add_up : UsesAddUp
+uses_add_up g ps day = (used_so day).1
 
 -- ---- The answers
 

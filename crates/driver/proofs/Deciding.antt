@@ -25,6 +25,7 @@ use Rattle.cabinet.specs.declared.Group.{Group}
 use Rattle.cabinet.specs.Accounts.{group_in}
 use Rattle.cabinet.specs.Promises.{At}
 use Rattle.driver.proofs.Opening.{open_decides}
+use Rattle.driver.proofs.Charges.{pays, pays_nothing}
 use Rattle.std.specs.Prelude.{Err, Ok, Result, ℕ}
 
 -- ---- Reading
@@ -174,10 +175,13 @@ checks_file {f} {w} {buf} {w' = w'} {buf' = buf'} {s = s} h c =
 
 pub checks_at : {g : Group} {d : ℕ} {f w buf w₁ buf₁ w' buf' : List ℕ} {s : Settled} {r : Desked} → At g d → RunsFile f w buf (desk_account g d) w₁ buf₁ s
     → Clears s.outcome w₁ buf₁ w' buf' → r ≡ record { group = group_in s.account; outcome = s.outcome } → ChecksAt g d f w buf w' buf' r
-checks_at {s = s} i h c e = rw e (record {
-  outside = λ o. absurd (o i);
-  inside = λ _. (cleared h.words h.bytes s.outcome h.told c, ap group_in h.account);
-})
+checks_at {g} {d} {f} {w} {buf} {s = s} i h c e =
+    let y = cleared h.words h.bytes s.outcome h.told c in
+    rw e (record {
+      outside = λ o. absurd (o i);
+      inside = λ _. (y, ap group_in h.account);
+      pays = rw (y.result, ap group_in h.account) (pays g d f (length w) (length buf));
+    })
 
 pub checks_none : {g : Group} {d : ℕ} {f w buf w' buf' : List ℕ} {r : Desked} → (At g d → ⊥) → Clears (Err Refusal.OutsideTheRules) w buf w' buf'
     → r ≡ record { group = g; outcome = Err Refusal.OutsideTheRules } → ChecksAt g d f w buf w' buf' r
@@ -185,4 +189,5 @@ unfolding CallEnds
 checks_none o c e = rw e (record {
   outside = λ _. (cleared refl refl (Err Refusal.OutsideTheRules) (Refusal.OutsideTheRules, refl, refl) c, refl);
   inside = λ i. absurd (o i);
+  pays = pays_nothing _ _ _ _ 0 _ (λ form i h p. o i);
 })

@@ -41,7 +41,7 @@ use Rattle.driver.specs.Desks.{Stops, EndsWithin, none_left, one_more, RefusedAt
 -- ---- The queries in turn
 
 module _ (schema : Schema) where
-  stops : (qs : List Ast) (a : Account) (i : Refusal) → (run_at schema qs a).end ≡ stopped i → Stops schema qs a i
+  pub stops : (qs : List Ast) (a : Account) (i : Refusal) → (run_at schema qs a).end ≡ stopped i → Stops schema qs a i
   unfolding run_at
   stops [] a i e = let z : ◌≡◌ {A = ℕ} 0 1 = cc in absurd (omega arith)
   stops (q ∷ qs) a i e = go (λ b. stops qs b i) (check (ceiling_in a) schema q) refl e

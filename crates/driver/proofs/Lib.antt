@@ -2,6 +2,7 @@ mod Continuing
 mod Turning
 mod Telling
 pub mod Opening
+pub mod Charges
 pub mod Deciding
 mod Lining
 pub mod Demands

@@ -1,5 +1,6 @@
 pub mod At
 pub mod Turns
+pub mod Charges
 pub mod Promises
 pub mod Demands
 pub mod Days

@@ -15,6 +15,7 @@ use Rattle.cabinet.specs.declared.Group.{Group}
 use Rattle.cabinet.specs.Promises.{At}
 use Rattle.cabinet.specs.Accounts.{group_in}
 use Rattle.driver.specs.At.{run_at, decide_end, decide_at, desk_account}
+use Rattle.driver.specs.Charges.{Pays}
 use Rattle.driver.specs.declared.Settled.{Settled}
 use Rattle.driver.specs.declared.Desked.{Desked}
 
@@ -69,8 +70,9 @@ pub record ChecksFile (f w out w' out' : List ℕ) (r : Std.Result ℕ Refusal) 
   pub ends : (n : ℕ) → r ≡ Ok n → (n ≤ length out) × (decide f (length w) ≡ answered (take n out'))
 
 -- The call at a desk. "17 for a desk number [..] outside the rules, or a group handed in that breaks them [..], before 1, the group unchanged";
--- else it is as the definition has it, and the group is charged.
+-- else it is as the definition has it, and the group is charged, by what the queries made.
 pub record ChecksAt (g : Group) (d : ℕ) (f w out w' out' : List ℕ) (r : Desked) : Type 0 where
   pub outside : (At g d → ⊥) → Finishes (turned_down outside_the_rules) w out w' out' r.outcome × (r.group ≡ g)
   pub inside : At g d → Finishes (decide_at f (length w) (desk_account g d)).decided w out w' out' r.outcome
       × (r.group ≡ group_in (decide_at f (length w) (desk_account g d)).account)
+  pub pays : Pays g d f (length w) (result_of r.outcome) r.group

@@ -7,6 +7,7 @@ ghost use Rattle.format.specs.Bytes.{hex_line};
 ghost use Rattle.reading.specs.Promises.{refusal};
 ghost use Rattle.driver.specs.Turns.{OneOfSeveral, WritesHeading, Place, AnswersQuery, TakesTurn};
 ghost use Rattle.driver.specs.At.{stop_at};
+ghost use Rattle.driver.specs.Days.{UsesAddUp};
 ghost use Rattle.driver.specs.Promises.{RunsQueries, RunsFile, Clears, ChecksFile, ChecksAt};
 
 use cabinet::{Account, Group};
@@ -193,6 +194,12 @@ pub fn check_at(g: Group, desk: usize, file: &[u8], work: &mut [u32], out: &mut 
         outcome: r,
     }
 }
+
+/// The law of a day at the desks, as a contract: each desk's use is the sum of what its calls were charged (`Pays`),
+/// whatever calls they were. It runs nothing.
+pub fn uses_add_up()
+    ensures { UsesAddUp }
+{}
 
 // Document 01's number is the discriminant, and no `From` leads from an enum to u8; docs/PROMISE.md has the function by
 // this name.

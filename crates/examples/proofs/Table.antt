@@ -4,13 +4,16 @@ use native.Mathlib.Decide.{ℕ_discrete}
 use mathlib.Core.Path.{refl}
 use Rattle.unification.specs.Bindings as Bindings
 use Rattle.unification.specs.Unify as Unify
-use Rattle.meaning.specs.Table.{at_limits, holds, TableRows, end, ◌then◌, wholes, ends}
+use Rattle.format.specs.Table.{TableRows, end, ◌then◌}
+use Rattle.meaning.specs.Table.{at_limits, holds, wholes, ends}
 
 -- The last that passes and the first that does not.
 pub limit_examples : TableRows holds at_limits
 unfolding at_limits holds ℕ_discrete Bindings.fresh Bindings.fresh_id Bindings.annotate Bindings.snapshot Bindings.rollback Bindings.zonk Unify.unify
     Unify.orderable
 limit_examples =
+    -- 65,536 bytes
+    refl then
     -- 65,537 bytes
     refl then
     -- 1 before 2
@@ -24,6 +27,16 @@ limit_examples =
     -- 257 types
     refl then
     -- 129 predicates
+    refl then
+    -- 513 nodes
+    refl then
+    -- 256 names
+    refl then
+    -- 256 types
+    refl then
+    -- 128 predicates
+    refl then
+    -- 512 nodes
     refl then
     end
 

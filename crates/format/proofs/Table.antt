@@ -7,7 +7,7 @@ use Rattle.unification.specs.Ty.{Int, Record, Union, leaf, node, ε, cell}
 use Rattle.format.specs.Frame.{wide}
 use Rattle.format.specs.Refusal.{malformed_frame, too_many_queries}
 use Rattle.format.specs.File.{refused, types_of, reading_of, reading}
-use Rattle.format.specs.Table.{text, again}
+use Rattle.format.specs.Table.{text, again, TableRows, end, ◌then◌, reads, reference_rows}
 
 -- A file's types by number, none of which a predicate names: Int; a record of it under the name 0; a union of the two, by their
 -- discriminants 5 and 7 and their names 0 and 1.
@@ -28,3 +28,58 @@ form_first = refl
 queries_65 : reading (text ("01020020" ∷ []) ++ again 65) ≡ refused too_many_queries
 unfolding reading_of text again ℕ_discrete
 queries_65 = refl
+
+-- References, what comes twice, and the order of lines.
+pub reference_rows_lem : TableRows reads reference_rows
+unfolding reference_rows reads ℕ_discrete
+reference_rows_lem =
+    -- a name that is not there, of a type or a predicate
+    refl then
+    refl then
+    -- of a node
+    refl then
+    refl then
+    refl then
+    refl then
+    refl then
+    refl then
+    -- a type that is not earlier
+    refl then
+    refl then
+    refl then
+    refl then
+    -- a node that is not lower
+    refl then
+    refl then
+    refl then
+    refl then
+    refl then
+    refl then
+    refl then
+    refl then
+    -- of a statement
+    refl then
+    refl then
+    refl then
+    refl then
+    refl then
+    refl then
+    refl then
+    refl then
+    -- a node named again
+    refl then
+    refl then
+    refl then
+    refl then
+    -- a union that repeats a discriminant, a name
+    refl then
+    refl then
+    -- which line may not follow which
+    refl then
+    refl then
+    refl then
+    refl then
+    refl then
+    refl then
+    refl then
+    end

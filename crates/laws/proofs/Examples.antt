@@ -34,8 +34,8 @@ use Rattle.meaning.specs.Outcome.{min_words, max_visits, Accepted, Refused, outc
 use Rattle.laws.specs.Marks.{NoMark}
 use Rattle.laws.specs.Names.{Renamed, lines_but, lines_beside, SameBeside, Fits}
 use Rattle.laws.specs.Growth.{Grown, NoAbsent}
-use Rattle.laws.specs.Examples.{all_codes, all_texts, one_compared, comparing, named, roomier, ab, accented, short, value, asking, asking_grown, told}
-use Rattle.laws.specs.Examples.{telling, before, grown, blackened}
+use Rattle.laws.specs.Examples.{all_codes, all_texts, one_compared, comparing, named, roomier, ab, accented, longer, short, value, each_name}
+use Rattle.laws.specs.Examples.{asking, asking_grown, told, telling, before, grown, blackened}
 use Rattle.unification.proofs.Tests.{clash}
 use Rattle.format.proofs.Written.{are_lines}
 use Rattle.format.proofs.Content.{says_exactly}
@@ -72,6 +72,14 @@ renamed = record { only_names = refl; value = refl; terms = ((refl, (tt, (tt, (t
 pub renamed_alike : answers max_visits (named (ab ∷ value ∷ [])) ≡ answers max_visits (named (accented ∷ value ∷ []))
 renamed_alike = names_private _ _ renamed max_visits
 
+-- names of other lengths, of every node but a fuzzy term, and to a length that the limit of fuzzy terms does not allow
+other_lengths : Renamed (each_name short) (each_name longer)
+unfolding position same_text value_text
+other_lengths = record { only_names = refl; value = refl; terms = ((tt, (tt, (tt, (tt, (tt, tt))))), tt) }
+
+pub other_lengths_alike : answers max_visits (each_name short) ≡ answers max_visits (each_name longer)
+other_lengths_alike = names_private _ _ other_lengths max_visits
+
 both_codes : all_codes (answers 9 (named (ab ∷ value ∷ []))) ≡ (RejectFuzzyTerm ∷ RejectValueShadowed ∷ []) ∷ []
 unfolding check code_of describes ℕ_discrete Bindings.fresh Bindings.fresh_id Bindings.annotate Bindings.snapshot Bindings.rollback Bindings.zonk Unify.unify
     Unify.orderable
@@ -99,17 +107,21 @@ other_limit = refl
 refers : Refers (asking 0)
 unfolding shape_names optional expr_names
 refers = record {
-  type_names = (tt, ((omega arith, tt), tt));
+  type_names = (tt, ((omega arith, tt), (tt, tt)));
   predicate_names = (omega arith, tt);
   predicate_types = ((omega arith, tt), tt);
   node_names = ((tt, (tt, (tt, tt))), tt);
 }
 
 present : NoAbsent (asking 0)
-present = record { types = (tt, (tt, tt)); nodes = ((tt, (omega arith, (tt, tt))), tt) }
+present = record { types = (tt, (tt, (omega arith, tt))); nodes = ((tt, (omega arith, (tt, tt))), tt) }
 
 pub grown_alike : answers max_visits (asking 0) ≡ answers max_visits (asking_grown 0)
 grown_alike = grown_answers (asking 0) refers present _ _ _ max_visits
+
+-- Nothing at all may be added too.
+unchanged : Grown (asking 0) (asking 0)
+unchanged = record { names = []; types = []; predicates = []; is = refl }
 
 no_value_lem : all_codes (answers 9 (asking 0)) ≡ (RejectNoValue ∷ []) ∷ []
 unfolding check code_of describes ℕ_discrete Bindings.fresh Bindings.fresh_id Bindings.annotate Bindings.snapshot Bindings.rollback Bindings.zonk Unify.unify
@@ -155,7 +167,7 @@ unfolding check describes message_text ℕ_discrete Bindings.fresh Bindings.fres
     Unify.unify Unify.orderable
 with_names_lem = refl
 
-other_names : all_texts (text_in (describes (blackened 0))) (answers 9 (blackened 0)) ≡ both_texts (quoted accented) (quoted accented)
+other_names : all_texts (text_in (describes (blackened 0))) (answers 9 (blackened 0)) ≡ both_texts (quoted longer) (quoted longer)
 unfolding check describes message_text ℕ_discrete Bindings.fresh Bindings.fresh_id Bindings.annotate Bindings.snapshot Bindings.rollback Bindings.zonk
     Unify.unify Unify.orderable
 other_names = refl
@@ -235,7 +247,7 @@ says_old = says_telling ab 2 refl (other_length_of refl) (are_lines wide (lines 
 
 says_renamed : Says wide (file (blackened 0)) (describes (blackened 0))
 unfolding characters max_file file_of frames_of lines said
-says_renamed = says_telling accented 2 refl (other_length_of refl)
+says_renamed = says_telling longer 3 refl (other_length_of refl)
     (are_lines wide (lines (file (blackened 0))) (frames_of (blackened 0)) refl).writable (omega arith)
 
 pub says_grown : Says wide (file (grown 0)) (describes (grown 0))
@@ -248,14 +260,17 @@ says_grown = record {
     names_max = omega arith;
     types_max = omega arith;
     predicates_max = omega arith;
-    texts = (text_of ab 2 refl, (text_of short 1 refl, (text_of value 5 refl, tt)));
-    distinct = ((other_length_of refl, (other_length_of refl, tt)), ((other_length_of refl, tt), (tt, tt)));
-    type_names = (tt, ((omega arith, tt), ((omega arith, tt), tt)));
-    type_types = (tt, ((omega arith, tt), ((omega arith, tt), tt)));
-    type_keys = (tt, ((tt, tt), ((tt, tt), tt)));
-    predicate_names = (omega arith, (omega arith, tt));
-    predicate_types = ((omega arith, tt), ((omega arith, tt), tt));
-    queries = (told_lawful 3 (omega arith), tt);
+    texts = (text_of ab 2 refl, (text_of short 1 refl, (text_of value 5 refl, (text_of accented 2 refl, tt))));
+    distinct = (
+      (other_length_of refl, (other_length_of refl, (other_length_of refl, tt))),
+      ((other_length_of refl, (other_length_of refl, tt)), ((other_length_of refl, tt), (tt, tt))),
+    );
+    type_names = (tt, ((omega arith, tt), ((omega arith, tt), ((omega arith, tt), tt))));
+    type_types = (tt, ((omega arith, tt), ((omega arith, tt), ((omega arith, tt), tt))));
+    type_keys = (tt, ((tt, tt), ((tt, tt), ((tt, tt), tt))));
+    predicate_names = (omega arith, (omega arith, (omega arith, tt)));
+    predicate_types = ((omega arith, tt), ((omega arith, tt), ((omega arith, (omega arith, tt)), tt)));
+    queries = (told_lawful 4 (omega arith), tt);
     queries_min = omega arith;
     queries_max = omega arith;
     writable = (are_lines wide (lines (file (grown 0))) (frames_of (grown 0)) refl).writable;
@@ -299,7 +314,7 @@ unfolding position same_text value_text min_words says_renamed says_telling says
 renamed_outcome =
     private_files _ _ _ _ says_old says_renamed (record { only_names = refl; value = refl; terms = ((tt, (tt, (tt, (tt, (tt, (tt, tt)))))), tt) })
     16384 999 16384 999 (omega arith) (omega arith)
-    (fits ab old_answered) (fits accented renamed_answered)
+    (fits ab old_answered) (fits longer renamed_answered)
 
 -- A name that is given twice is no file's: the second file is not past 8.
 given_twice : reading (file (telling (short ∷ short ∷ []) 0)) ≡ refused name_given_before

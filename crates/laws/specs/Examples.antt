@@ -61,19 +61,39 @@ ab = 0x61 ∷ 0x62 ∷ []
 abbrev pub accented : List ℕ
 accented = 0xc3 ∷ 0xa9 ∷ 0xc3 ∷ 0xa8 ∷ []
 
+-- three characters in six bytes
+abbrev pub longer : List ℕ
+longer = 0xc3 ∷ 0xa9 ∷ 0xc3 ∷ 0xa8 ∷ 0xc3 ∷ 0xa9 ∷ []
+
 abbrev pub short : List ℕ
 short = 0x78 ∷ []
 
 abbrev pub value : List ℕ
 value = 0x76 ∷ 0x61 ∷ 0x6c ∷ 0x75 ∷ 0x65 ∷ []
 
--- `.value` of a fact of predicate p, where there is one predicate, without a value.
+-- Each node but a fuzzy term that has a name.
+abbrev pub each_name : List ℕ → Content
+each_name text = record {
+  max_distance = 2;
+  max_term_chars = 1;
+  names = text ∷ [];
+  types = [];
+  predicates = [];
+  queries = record {
+    nodes =
+        shape (ExprKind.Var 0) ∷ shape (ExprKind.Record (record { name = 0; value = 0 } ∷ [])) ∷ shape (ExprKind.Access (FieldRef.Key 0) 1)
+        ∷ shape (ExprKind.Select 0 2) ∷ shape (ExprKind.Prefix 0) ∷ [];
+    query = record { head = 3; body = QueryStmt.Implicit 4 ∷ [] };
+  } ∷ [];
+}
+
+-- `.value` of a fact of predicate p, where there is one predicate, without a value. A type names it too.
 abbrev pub asking : ℕ → Content
 asking p = record {
   max_distance = 2;
   max_term_chars = 32;
   names = ab ∷ short ∷ [];
-  types = a_leaf Leaf.Int ∷ a_record (record { name = 1; value = 0 } ∷ []) ∷ [];
+  types = a_leaf Leaf.Int ∷ a_record (record { name = 1; value = 0 } ∷ []) ∷ a_leaf (Leaf.Fact 0) ∷ [];
   predicates = record { name = 0; key = 1; value = None } ∷ [];
   queries = record {
     nodes = shape ExprKind.Wildcard ∷ shape (ExprKind.Fact p 0) ∷ shape (ExprKind.Access FieldRef.Value 1) ∷ [];
@@ -83,7 +103,7 @@ asking p = record {
 
 -- The same with the name `value`, a record with such a field, and a predicate keyed by it.
 abbrev pub asking_grown : ℕ → Content
-asking_grown p = grow (asking p) (value ∷ []) (a_record (record { name = 2; value = 0 } ∷ []) ∷ []) (record { name = 2; key = 2; value = None } ∷ [])
+asking_grown p = grow (asking p) (value ∷ []) (a_record (record { name = 2; value = 0 } ∷ []) ∷ []) (record { name = 2; key = 3; value = None } ∷ [])
 
 -- ---- Messages with names
 
@@ -109,11 +129,14 @@ telling names p = record {
 abbrev pub before : ℕ → Content
 before p = telling (ab ∷ short ∷ []) p
 
+-- two more of each kind
 abbrev pub grown : ℕ → Content
-grown p = grow (before p) (value ∷ []) (a_record (record { name = 2; value = 0 } ∷ []) ∷ []) (record { name = 2; key = 2; value = None } ∷ [])
+grown p = grow (before p) (value ∷ accented ∷ []) (a_record (record { name = 2; value = 0 } ∷ []) ∷ a_record (record { name = 3; value = 2 } ∷ []) ∷ [])
+    (record { name = 2; key = 2; value = None } ∷ record { name = 3; key = 3; value = Some 1 } ∷ [])
 
+-- another number of characters too: no term of this query is fuzzy
 abbrev pub blackened : ℕ → Content
-blackened p = telling (accented ∷ short ∷ []) p
+blackened p = telling (longer ∷ short ∷ []) p
 
 -- The texts of each query's messages.
 abbrev pub messages_of : (Message → List ℕ) → Checked → List (List ℕ)

@@ -3,8 +3,8 @@ use mathlib.Core.Path.{refl}
 use native.Mathlib.Decide.{ℕ_discrete}
 use Rattle.unification.specs.Bindings as Bindings
 use Rattle.unification.specs.Unify as Unify
-use Rattle.meaning.specs.Table.{examples, own_examples, shape_examples, message_examples, unused_examples, forms, refusals, limits_of, holds, TableRows}
-use Rattle.meaning.specs.Table.{end, ◌then◌, short_wholes, ends}
+use Rattle.format.specs.Table.{TableRows, end, ◌then◌}
+use Rattle.meaning.specs.Table.{examples, own_examples, shape_examples, message_examples, unused_examples, forms, refusals, limits_of, holds, short_wholes, ends}
 
 -- Document 01's list.
 pub table : TableRows holds examples
@@ -90,6 +90,8 @@ shape_examples_lem =
     -- what unification compares
     refl then
     -- a term at the limit
+    refl then
+    -- what has an order
     refl then
     end
 

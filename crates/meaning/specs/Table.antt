@@ -2,7 +2,7 @@
 -- case, the list of "Contract and case", and the table of refusals but 11, whose row takes more visits than can be computed; our own; each
 -- message; forms of several queries. Each row is a file, the lengths of the two slices, what the program prints and, of an accepted file, its
 -- visits. Then whole outcomes: the result and both slices.
-use Rattle.std.specs.Prelude.{◌&&◌, Bool, true, List, [], ◌∷◌, ◌++◌, ◌≡◌, ℕ, zero, suc, ◌+◌, ◌/◌, ◌%◌, eqb, replicate, None, Option, Some}
+use Rattle.std.specs.Prelude.{◌&&◌, Bool, List, [], ◌∷◌, ◌++◌, ℕ, zero, suc, ◌+◌, ◌/◌, ◌%◌, eqb, replicate, None, Option, Some}
 use Prim.Native.String.{String}
 use Rattle.format.specs.Table.{text, M, again}
 use Rattle.format.specs.Bytes.{ascii, bytes₄, hex_line}
@@ -664,13 +664,15 @@ shape_examples =
     [])
     5 ∷
     -- comparisons: 1 < ""; {q = y} < x, where x is introduced before y; 1 < p _, which differ and so have no order to speak of;
-    -- {q = p _} < {q = p _}; and two values of q, a union of integers, which has an order
+    -- {q = p _} < {q = p _}; two values of q, a union of integers, which has an order; and v < w, where v is introduced first
     accepted (
     "01020020" ∷
     "0270" ∷
     "0271" ∷
     "0278" ∷
     "0279" ∷
+    "0276" ∷
+    "0277" ∷
     "0300" ∷
     "03050001000000070000" ∷
     "040000000000" ∷
@@ -695,8 +697,10 @@ shape_examples =
     "05000000220000002304" ∷
     "0500000024000000250d000000010011" ∷
     "0500000026000000270a0012" ∷
-    "050000002800000029060000" ∷
-    "06001404000000010400030004040007000604000a000d0400100013" ∷
+    "050000002800000029030004" ∷
+    "050000002a0000002b030005" ∷
+    "050000002c0000002d060000" ∷
+    "06001604000000010400030004040007000604000a000d04001000130400140015" ∷
     [])
     (
     "07000000" ∷
@@ -719,7 +723,9 @@ shape_examples =
     "07001100" ∷
     "0700120300000001" ∷
     "07001305000100010000000700" ∷
-    "07001401" ∷
+    "070014060002" ∷
+    "070015060002" ∷
+    "07001601" ∷
     "08000000020000000372656a6563742f747970652d6d69736d61746368" ∷
     "0a657870656374656420616e20696e74656765722c20666f756e64206120737472696e67" ∷
     "080000000c0000000d72656a6563742f747970652d6d69736d61746368" ∷
@@ -728,8 +734,10 @@ shape_examples =
     "0a7b71203d206070607d20686173206e6f206f7264657220e2809420697420686f6c64732061207265666572656e63652c20616e642061207265666572656e636520636f6d7061726573206279207768696368206661637420776173207772697474656e206669727374" ∷
     "0c0000000800000009" ∷
     "0c0000000400000005" ∷
+    "0c0000002800000029" ∷
+    "0c0000002a0000002b" ∷
     [])
-    15 ∷
+    18 ∷
     -- a prefix and a fuzzy term are strings, never is what it is asked to be, and arithmetic wants integers: x = "p"..; x = bytes; y = never;
     -- y = 1; z = a fuzzy term; z = ""; head 1 + x + k
     accepted (
@@ -949,7 +957,7 @@ shape_examples =
     "0c0000000400000005" ∷
     [])
     12 ∷
-    -- an alternative is selected by its name: u.a? and u.b?, u being (p _).value, a union of a = 5 and b = 1; error.a?; x.a?; {}.a?; (p _).a?
+    -- an alternative is selected by its name: u.a? and u.b?, u being (p _).value, a union of a = 9 and b = 10; error.a?; x.a?; {}.a?; (p _).a?
     accepted (
     "01020020" ∷
     "0276616c7565" ∷
@@ -961,7 +969,7 @@ shape_examples =
     "0278" ∷
     "0300" ∷
     "0301" ∷
-    "030500010000000500000002000000010001" ∷
+    "0305000100000009000000020000000a0001" ∷
     "030400010000" ∷
     "03050000000000000000" ∷
     "0400030003010002" ∷
@@ -989,11 +997,11 @@ shape_examples =
     (
     "070000040001000100" ∷
     "0700010300000000" ∷
-    "0700020500020001000000050000020000000101" ∷
+    "0700020500020001000000090000020000000a01" ∷
     "07000300" ∷
     "070004040001000100" ∷
     "0700050300000000" ∷
-    "0700060500020001000000050000020000000101" ∷
+    "0700060500020001000000090000020000000a01" ∷
     "07000701" ∷
     "07000807" ∷
     "07000907" ∷
@@ -1026,7 +1034,7 @@ shape_examples =
     "0278" ∷
     "0300" ∷
     "0301" ∷
-    "030500010000000500000002000000010001" ∷
+    "0305000100000009000000020000000a0001" ∷
     "030400010000" ∷
     "03050000000000000000" ∷
     "0400030003010002" ∷
@@ -1080,7 +1088,7 @@ shape_examples =
     "07000907" ∷
     "07000a040001000100" ∷
     "07000b0300000000" ∷
-    "07000c0500020001000000050000020000000101" ∷
+    "07000c0500020001000000090000020000000a01" ∷
     "07000d07" ∷
     "07000e05000100000000000000" ∷
     "07000f0300000002" ∷
@@ -1110,7 +1118,7 @@ shape_examples =
     "08000000120000001372656a6563742f747970652d6d69736d61746368" ∷
     "0a6f6e6c79206120666163742068617320612076616c75653b2074686973206973206279746573" ∷
     "080000001a0000001b72656a6563742f747970652d6d69736d61746368" ∷
-    "0a6f6e6c79206120666163742068617320612076616c75653b2074686973206973207b61203a20616e20696e7465676572203d2035207c2062203a206120737472696e67203d20317d" ∷
+    "0a6f6e6c79206120666163742068617320612076616c75653b2074686973206973207b61203a20616e20696e7465676572203d2039207c2062203a206120737472696e67203d2031307d" ∷
     "08000000260000002772656a6563742f756e6b6e6f776e2d6669656c64" ∷
     "0a606160206973206e6f742061206669656c642068657265" ∷
     "08000000320000003372656a6563742f747970652d6d69736d61746368" ∷
@@ -1354,17 +1362,87 @@ shape_examples =
     "0c0000000a0000000b" ∷
     [])
     25 ∷
-    -- a term of just as many characters as the file's limit, 2, in five bytes, at just its distance, 3
+    -- a term of just as many characters as the file's limit, 2, in five bytes, at just its distance, 3; alone in a choice, which is a head
     accepted (
     "01030002" ∷
     "02c3a9e282ac" ∷
     "05000000000000000107000003" ∷
-    "060000" ∷
+    "0500000002000000030b0000" ∷
+    "060001" ∷
     [])
     (
     "07000001" ∷
+    "07000101" ∷
     [])
-    0 ∷
+    2 ∷
+    -- what has an order: "" < ""; bytes < bytes; error < 1; {a = 1, p = p _, b = ""} < the same, asked up to its reference; and two values of q,
+    -- a union of references
+    accepted (
+    "01020020" ∷
+    "0261" ∷
+    "0270" ∷
+    "0262" ∷
+    "0271" ∷
+    "0300" ∷
+    "030300000000" ∷
+    "03050000000000010001" ∷
+    "040001000000" ∷
+    "0400030000010002" ∷
+    "05000000000000000101" ∷
+    "05000000020000000301" ∷
+    "05000000040000000502" ∷
+    "05000000060000000702" ∷
+    "0500000008000000090f" ∷
+    "050000000a0000000b00" ∷
+    "050000000c0000000d00" ∷
+    "050000000e0000000f04" ∷
+    "0500000010000000110d000000000007" ∷
+    "05000000120000001301" ∷
+    "05000000140000001508000000060001000800020009" ∷
+    "05000000160000001700" ∷
+    "05000000180000001904" ∷
+    "050000001a0000001b0d00000000000c" ∷
+    "050000001c0000001d01" ∷
+    "050000001e0000001f080000000b0001000d0002000e" ∷
+    "05000000200000002104" ∷
+    "0500000022000000230d000000010010" ∷
+    "0500000024000000250a0011" ∷
+    "05000000260000002704" ∷
+    "0500000028000000290d000000010013" ∷
+    "050000002a0000002b0a0014" ∷
+    "050000002c0000002d00" ∷
+    "06001604000000010400020003040004000504000a000f0400120015" ∷
+    [])
+    (
+    "07000001" ∷
+    "07000101" ∷
+    "07000202" ∷
+    "07000302" ∷
+    "07000407" ∷
+    "07000500" ∷
+    "07000600" ∷
+    "07000700" ∷
+    "0700080300000000" ∷
+    "07000901" ∷
+    "07000a04000300000000010300000000000201" ∷
+    "07000b00" ∷
+    "07000c00" ∷
+    "07000d0300000000" ∷
+    "07000e01" ∷
+    "07000f04000300000000010300000000000201" ∷
+    "07001000" ∷
+    "0700110300000001" ∷
+    "0700120500010000000000010300000000" ∷
+    "07001300" ∷
+    "0700140300000001" ∷
+    "0700150500010000000000010300000000" ∷
+    "07001600" ∷
+    "08000000140000001572656a6563742f747970652d6d69736d61746368" ∷
+    "0a7b61203d20616e20696e74656765722c2070203d206070602c2062203d206120737472696e677d20686173206e6f206f7264657220e2809420697420686f6c64732061207265666572656e63652c20616e642061207265666572656e636520636f6d7061726573206279207768696368206661637420776173207772697474656e206669727374" ∷
+    "08000000240000002572656a6563742f747970652d6d69736d61746368" ∷
+    "0a7b61203a20607060203d20317d20686173206e6f206f7264657220e2809420697420686f6c64732061207265666572656e63652c20616e642061207265666572656e636520636f6d7061726573206279207768696368206661637420776173207772697474656e206669727374" ∷
+    [])
+    17 ∷
     []
 
 -- ---- Messages (card 1)
@@ -2108,7 +2186,8 @@ times (suc n) l = text (l ∷ []) ++ times n l
 unfoldable pub at_limits : List Example
 unfolding turned_down text times name_lines hex_line again
 at_limits =
-    -- 2, and 1 before it
+    -- 2, and 1 before it; a byte less is long enough to be read, and no line
+    turned_down (replicate 65536 0) 16384 65536 "0f03" ∷
     turned_down (replicate 65537 0) 16384 65536 "0f02" ∷
     turned_down (replicate 65537 0) 16383 65536 "0f01" ∷
     -- 3: a name of 511 bytes and one of 512
@@ -2120,10 +2199,16 @@ at_limits =
       visits = 0;
     } ∷
     turned_down (text ("01020020" ∷ []) ++ hex_line (0x02 ∷ replicate 512 0x61)) 16384 65536 "0f03" ∷
-    -- 5: the 257th name, the 257th type and the 129th predicate
+    -- 5: the 257th name, the 257th type, the 129th predicate and the 513th node
     turned_down (text ("01020020" ∷ []) ++ name_lines 257) 16384 65536 "0f05" ∷
     turned_down (text ("01020020" ∷ "0278" ∷ []) ++ times 257 "0300") 16384 65536 "0f05" ∷
     turned_down (text ("01020020" ∷ "0278" ∷ "0300" ∷ []) ++ times 129 "040000000000") 16384 65536 "0f05" ∷
+    turned_down (text ("01020020" ∷ []) ++ times 513 "05000000000000000300") 16384 65536 "0f05" ∷
+    -- 4, since as many as are allowed have passed: 256 names, 256 types, 128 predicates and 512 nodes before a line of kind 00
+    turned_down (text ("01020020" ∷ []) ++ (name_lines 256 ++ text ("00" ∷ []))) 16384 65536 "0f04" ∷
+    turned_down (text ("01020020" ∷ "0278" ∷ []) ++ (times 256 "0300" ++ text ("00" ∷ []))) 16384 65536 "0f04" ∷
+    turned_down (text ("01020020" ∷ "0278" ∷ "0300" ∷ []) ++ (times 128 "040000000000" ++ text ("00" ∷ []))) 16384 65536 "0f04" ∷
+    turned_down (text ("01020020" ∷ []) ++ (times 512 "05000000000000000300" ++ text ("00" ∷ []))) 16384 65536 "0f04" ∷
     []
 
 -- ---- The test of a row
@@ -2142,12 +2227,6 @@ visits_of (described f) = visits_in (run_all f.schema f.queries)
 unfoldable pub holds : Example → Bool
 unfolding same_text decide printed_lines visits_of reading_of
 holds e = same_text (printed_lines (decide e.file e.words) e.bytes) e.prints && eqb (visits_of (reading e.file)) e.visits
-
--- Each row passes its test.
-infixr 30 ◌then◌
-pub data TableRows {A : Type 0} (test : A → Bool) : List A → Type 0 where
-  end : TableRows test []
-  ◌then◌ : {a : A} {l : List A} → test a ≡ true → TableRows test l → TableRows test (a ∷ l)
 
 -- ---- Whole outcomes
 

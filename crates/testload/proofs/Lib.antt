@@ -1,4 +1,5 @@
 pub mod Words
 pub mod Tables
 pub mod Lawful
+pub mod Late
 pub mod Promise

@@ -1,6 +1,6 @@
 -- 02-change-requests.md, card 11: "each 32-bit word is the sum, wrapping, of the words 24 and 55 before it; the first is the seed, and each of the
 -- next 54 is the one before it plus 2,654,435,769, wrapping." Places count from 0, so that the 56th word stands at 55.
-use Rattle.std.specs.Prelude.{true, false, List, [], ◌∷◌, ◌++◌, ℕ, zero, suc, ◌+◌, ◌-◌, ◌%◌, ◌^◌, eqb, ltb, get_or}
+use Rattle.std.specs.Prelude.{true, false, List, [], ◌∷◌, ◌++◌, ◌≡◌, ℕ, zero, suc, ◌+◌, ◌-◌, ◌%◌, ◌^◌, ◌≤◌, eqb, ltb, get_or}
 
 -- wrapping
 unfoldable pub plus : ℕ → ℕ → ℕ
@@ -23,3 +23,7 @@ words seed (suc n) = words seed n ++ next seed n (words seed n) ∷ []
 unfoldable pub word_at : ℕ → ℕ → ℕ
 unfolding words
 word_at seed n = get_or (words seed (suc n)) n 0
+
+-- The same words from the 56th on.
+abbrev pub AlikeFrom56 : List ℕ → List ℕ → Type 0
+AlikeFrom56 ws us = (n : ℕ) → 55 ≤ n → get_or ws n 0 ≡ get_or us n 0
