@@ -1,10 +1,12 @@
 -- The rows of specs/Table.antt, computed over the definitions. Each has a line of its own, so that a message tells which one fails.
-use mathlib.Core.Path.{refl}
+use mathlib.Core.Path.{◌≡◌, refl}
 use native.Mathlib.Decide.{ℕ_discrete}
 use Rattle.unification.specs.Bindings as Bindings
 use Rattle.unification.specs.Unify as Unify
-use Rattle.format.specs.Table.{TableRows, end, ◌then◌}
+use Rattle.format.specs.Table.{text, TableRows, end, ◌then◌}
+use Rattle.meaning.specs.Lamp.{Yes, No, lamp, lamp_visits}
 use Rattle.meaning.specs.Table.{examples, own_examples, shape_examples, message_examples, unused_examples, forms, refusals, limits_of, holds, short_wholes, ends}
+use Rattle.meaning.specs.Table.{dark, lit}
 
 -- Document 01's list.
 pub table : TableRows holds examples
@@ -264,3 +266,25 @@ outcome_examples =
     -- in 3 words
     refl then
     end
+
+-- The lamp: two queries of two visits each show nothing. A third between them has its diagnostic after three visits, so the rest of it and the
+-- query after it are not asked.
+dark_is : lamp (text dark) 16384 ≡ No
+unfolding lamp dark text ℕ_discrete Bindings.fresh Bindings.fresh_id Bindings.annotate Bindings.snapshot Bindings.rollback Bindings.zonk Unify.unify
+    Unify.orderable
+dark_is = refl
+
+dark_visits : lamp_visits (text dark) 16384 ≡ 4
+unfolding lamp_visits dark text ℕ_discrete Bindings.fresh Bindings.fresh_id Bindings.annotate Bindings.snapshot Bindings.rollback Bindings.zonk Unify.unify
+    Unify.orderable
+dark_visits = refl
+
+lit_is : lamp (text lit) 16384 ≡ Yes
+unfolding lamp lit text ℕ_discrete Bindings.fresh Bindings.fresh_id Bindings.annotate Bindings.snapshot Bindings.rollback Bindings.zonk Unify.unify
+    Unify.orderable
+lit_is = refl
+
+lit_visits : lamp_visits (text lit) 16384 ≡ 5
+unfolding lamp_visits lit text ℕ_discrete Bindings.fresh Bindings.fresh_id Bindings.annotate Bindings.snapshot Bindings.rollback Bindings.zonk Unify.unify
+    Unify.orderable
+lit_visits = refl
