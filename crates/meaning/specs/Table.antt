@@ -1,7 +1,7 @@
 -- Evidence for the definitions, computed in proofs/Table.antt and, what takes long, in crate examples. Document 01's examples: M, the whole
 -- case, the list of "Contract and case", and the table of refusals but 11, whose row takes more visits than can be computed; our own; each
--- message; forms of several queries. Each row is a file, the lengths of the two slices, what the program prints and, of an accepted file, its
--- visits. Then whole outcomes: the result and both slices.
+-- node shape, statement and arm; each message; forms of several queries. Each row is a file, the lengths of the two slices, what the program
+-- prints and, of an accepted file, its visits. Then whole outcomes: the result and both slices. Then the lamp.
 use Rattle.std.specs.Prelude.{◌&&◌, Bool, List, [], ◌∷◌, ◌++◌, ℕ, zero, suc, ◌+◌, ◌/◌, ◌%◌, eqb, replicate, None, Option, Some}
 use Prim.Native.String.{String}
 use Rattle.format.specs.Table.{text, M, again}
