@@ -18,7 +18,15 @@
  * Signals, longjmp?       A call may be interrupted; its slices then hold anything. It never calls back, blocks or raises.
  * How long does it take?  Microseconds; a query makes at most 1,048,576 visits, tens of milliseconds.
  * Which platform?         x86-64 Linux, the C calling convention of that system. No file, clock, locale or environment is read.
- * Which edition?          Predicate numbers of 4 bytes. Files of the older one, with 2, go through sigla_widen first. */
+ * Which edition?          Predicate numbers of 4 bytes. Files of the older one, with 2, go through sigla_widen first.
+ * Which version?          SIGLA_VERSION_NUMBER is this header's, sigla_version() the linked library's: a library that is no older, with the
+ *                         same major number (while that is 0: the same minor one), has all that this header says.
+ * What is an ABI change?  A call that goes or takes other arguments, another layout of sigla_tally or sigla_group, another value of a
+ *                         constant, a number that comes to mean something else, a longer work slice. Then the shared library gets another
+ *                         name (libsigla.so.0 is the first), and the major number rises, or while that is 0 the minor one. No such change
+ *                         is a call more, a refusal's number more, a kind of line more, another message: let pass what you do not know.
+ *                         In the shared library each call has the version that it came with (SIGLA_0.3 and so on); the static one has no
+ *                         such names, so there ask sigla_version. */
 #ifndef SIGLA_H
 #define SIGLA_H
 
@@ -27,6 +35,10 @@
 #include <string.h>
 
 #define SIGLA_VERSION "0.3.0"
+#define SIGLA_VERSION_MAJOR 0
+#define SIGLA_VERSION_MINOR 3
+#define SIGLA_VERSION_PATCH 0
+#define SIGLA_VERSION_NUMBER (SIGLA_VERSION_MAJOR << 16 | SIGLA_VERSION_MINOR << 8 | SIGLA_VERSION_PATCH)
 
 #define SIGLA_WORDS 16384       /* the words that must be lent */
 #define SIGLA_BYTES 65536       /* the answer bytes that the program lends */
@@ -107,7 +119,7 @@ enum sigla_statement {
     SIGLA_COMPARES = 0x04
 };
 
-/* Why a file or a call is turned down. */
+/* Why a file or a call is turned down (written from bindings/refusals.toml, as sigla_reason is). */
 enum sigla_refusal {
     SIGLA_ACCEPTED = 0,
     SIGLA_WORK_TOO_SHORT = 1,
@@ -133,6 +145,10 @@ enum sigla_refusal {
 #ifdef __cplusplus
 extern "C" {
 #endif
+
+/* The version of the library that the program runs with: 65,536 times the major number, 256 times the minor one, and the patch, to be held
+ * against SIGLA_VERSION_NUMBER. */
+uint32_t sigla_version(void);
 
 /* 0 where the file is accepted: the answer's lines stand in `answer`, and zeros after the last LF, so the answer ends at the first zero
  * byte or with the slice. A file may hold up to 64 queries over one schema; with more than one, a line 0b and the query's number stand
@@ -237,20 +253,20 @@ static inline const char *sigla_reason(uint8_t number) {
     case SIGLA_ACCEPTED: return "accepted";
     case SIGLA_WORK_TOO_SHORT: return "the work slice has fewer than 16,384 words";
     case SIGLA_FILE_TOO_LONG: return "the file has more than 65,536 bytes";
-    case SIGLA_MALFORMED_LINE: return "a line is empty, odd, has another character, more than 512 bytes, or no LF";
-    case SIGLA_MISPLACED_KIND: return "a kind is unknown or stands where it may not, or the last line is no query";
+    case SIGLA_MALFORMED_LINE: return "a line is empty, has an odd number of digits, another character, more than 512 bytes, or no LF";
+    case SIGLA_MISPLACED_KIND: return "a kind is unknown or stands where it may not, or the file does not end with a query";
     case SIGLA_TOO_MANY: return "there are over 256 names, 256 types, 128 predicates, or 512 nodes of a query";
-    case SIGLA_MALFORMED_FRAME: return "a frame does not have its kind's form";
+    case SIGLA_MALFORMED_FRAME: return "a frame has an unknown shape, flag or statement byte, or is too short or too long for it";
     case SIGLA_BROKEN_TEXT: return "a text is not UTF-8";
     case SIGLA_NAME_GIVEN_BEFORE: return "a name was given before";
-    case SIGLA_BAD_REFERENCE: return "a reference is to nothing earlier, or to a node that was named before";
+    case SIGLA_BAD_REFERENCE: return "a reference is to a name, type or node that no earlier line gives, or to a node that was named before";
     case SIGLA_REPEATED_KEY: return "a record type repeats a name, or a union type a discriminant";
     case SIGLA_TOO_MANY_VISITS: return "a query needs more than 1,048,576 visits";
     case SIGLA_ANSWER_TOO_LONG: return "the answer is longer than the answer slice";
     case SIGLA_TOO_MANY_QUERIES: return "there are more than 64 queries";
     case SIGLA_NUMBER_TOO_WIDE: return "a predicate's number above 65,535 does not fit in the narrow edition";
     case SIGLA_TALLY_TOO_LARGE: return "a total of the tally would pass 32 bits, or its remainder is over 999";
-    case SIGLA_CEILING_PASSED: return "a query needs more visits than the desk's ceiling";
+    case SIGLA_CEILING_PASSED: return "a query needs more visits than the desk's ceiling, which is under 1,048,576";
     case SIGLA_OUTSIDE_THE_RULES: return "the desk number or the group of desks is outside the rules";
     case SIGLA_TOO_FEW_WORDS: return "the plain solver needs more words than were lent to it";
     default: return "turned down for a reason that this version does not know";

@@ -3,6 +3,7 @@
 import contextlib
 import io
 import pathlib
+import pickle
 import random
 import threading
 import unittest
@@ -65,6 +66,28 @@ class Calls(unittest.TestCase):
             sigla.check((SAMPLES / "form.hex").read_bytes(), length=3)
         self.assertEqual(refused.exception.number, 12)
         self.assertIn("does not know", str(sigla.Refused(99)))
+
+    def test_what_has_no_bytes_is_told(self):
+        names, form = sigla.Names(), (SAMPLES / "form.hex").read_bytes()
+        for wrong in (5, True, 0, None, "01020020\n", 1.5, [48, 49], object()):
+            for call in (sigla.answer, sigla.check, sigla.lamp, sigla.widen, sigla.narrow, sigla.parse, names.of,
+                         lambda data: sigla.growth(form, data), lambda data: sigla.growth(data, form), lambda data: sigla.inspect(data, 0),
+                         lambda data: sigla.Group.set_up(4, [4], [4]).check(0, data)):
+                with self.assertRaises(TypeError, msg=(wrong, call)):
+                    call(wrong)
+        for data in (form, bytearray(form), memoryview(form)):
+            self.assertEqual(sigla.check(data), sigla.check(form))
+        with self.assertRaises(TypeError):
+            sigla.load("7")
+
+    def test_a_refusal_survives_a_pickle(self):
+        for fault in (sigla.Refused(4), sigla.Refused(99), sigla.Limit("names"), sigla.Limit("repeated_field", "pen")):
+            again = pickle.loads(pickle.dumps(fault))
+            self.assertEqual((type(again), str(again), vars(again)), (type(fault), str(fault), vars(fault)))
+        self.assertEqual(str(sigla.Refused(2)), "refused (2): the file has more than 65,536 bytes")
+
+    def test_the_version(self):
+        self.assertEqual(sigla.version(), sigla.__version__)
 
     def test_growth(self):
         old = (SAMPLES / "../crates/sigla_growth/data/old.hex").read_bytes()
@@ -201,6 +224,142 @@ class Calls(unittest.TestCase):
         self.assertIn("  35..41: reject/type-mismatch: expected an integer, found a string\n", out.getvalue())
         with contextlib.redirect_stdout(out), contextlib.redirect_stderr(out):
             self.assertEqual([sigla.main(paths) for paths in ([], ["/nowhere"], [str(SAMPLES / "notation/fact.txt")])], [2, 2, 3])
+
+
+class Builder(unittest.TestCase):
+    AT = (0, 0)
+
+    def limit(self, kind, call, *arguments):
+        with self.assertRaises(sigla.Limit) as limit:
+            call(*arguments)
+        self.assertEqual(limit.exception.kind, kind)
+        return limit.exception
+
+    def ask(self, form):
+        query = form.query()
+        return query.ask(query.integer(self.AT))
+
+    def one_more(self, file, line):
+        """The refusal of a file with one line more, put before the first line of a later kind."""
+        lines = file.splitlines(True)
+        place = next((i for i, other in enumerate(lines) if other[:2] > line[:2]), len(lines))
+        with self.assertRaises(sigla.Refused) as refused:
+            sigla.check(b"".join([*lines[:place], line, *lines[place:]]))
+        return refused.exception.number
+
+    def test_the_example(self):
+        form = sigla.Form(2, 32)
+        text = form.string()
+        sample = form.predicate("sample", text)
+        query = form.query()  # x where sample x; x < 3
+        fact = query.fact((8, 16), sample, query.variable((15, 16), "x"))
+        compares = sigla.Compares(query.variable((18, 19), "x"), query.integer((22, 23)))
+        self.assertEqual(query.ask(query.variable((0, 1), "x"), [sigla.Holds(fact), compares]), 0)
+        (typed,) = sigla.answer(form.file())
+        self.assertEqual([str(d) for d in typed.diagnostics], ["22..23: reject/type-mismatch: expected a string, found an integer"])
+        self.assertEqual(form.texts(), sigla.Names.of(form.file()))
+
+    def test_limits_of_the_schema(self):
+        form = sigla.Form(2, 32)
+        self.assertEqual([form.name(f"n{i}") for i in range(sigla.NAMES)], list(range(sigla.NAMES)))
+        self.assertEqual(form.name("n7"), 7)
+        self.limit("names", form.name, "more")
+        self.ask(form)
+        self.assertEqual(self.one_more(form.file(), b"026d6f7265\n"), sigla.Limit("names").refusal)
+        form = sigla.Form(2, 32)
+        types = [form.integer() for _ in range(sigla.TYPES)]
+        self.limit("types", form.string)
+        predicates = [form.predicate("p", types[-1], types[-1] if i % 2 else None) for i in range(sigla.PREDICATES)]
+        self.assertEqual([p.number for p in predicates], list(range(sigla.PREDICATES)))
+        self.limit("predicates", form.predicate, "p", types[0])
+        self.ask(form)
+        self.assertEqual(len(sigla.answer(form.file())), 1)
+        self.assertEqual(self.one_more(form.file(), b"0300\n"), sigla.Limit("types").refusal)
+        self.assertEqual(self.one_more(form.file(), b"040000000000\n"), sigla.Limit("predicates").refusal)
+        form = sigla.Form(2, 32)
+        ty = form.bytes()
+        self.assertEqual(self.limit("repeated_field", form.record, [("a", ty), ("b", ty), ("a", ty)]).what, "a")
+        self.assertEqual(self.limit("repeated_discriminant", form.union, [("a", 7, ty), ("b", 7, ty)]).what, 7)
+        form.union([("a", 0, ty), ("a", 2 ** 32 - 1, ty)])
+        form.record([])
+        self.limit("broken_text", form.name, "\ud800")
+        self.ask(form)
+        self.assertEqual(len(sigla.answer(form.file())), 1)
+
+    def test_limits_of_queries(self):
+        form = sigla.Form(2, 32)
+        query = form.query()
+        last = query.integer(self.AT)
+        for _ in range(1, sigla.NODES):
+            last = query.arithmetic(self.AT, [last])
+        self.limit("nodes", query.integer, self.AT)
+        query.ask(last)
+        self.assertEqual(self.one_more(form.file(), b"05000000000000000000\n"), sigla.Limit("nodes").refusal)
+        form = sigla.Form(2, 32)
+        self.assertEqual([self.ask(form) for _ in range(sigla.QUERIES)], list(range(sigla.QUERIES)))
+        self.limit("queries", form.query)
+        self.assertEqual(len(sigla.answer(form.file())), sigla.QUERIES)
+        form = sigla.Form(2, 32)
+        self.limit("frame", form.name, "é" * 256)
+        self.assertEqual(form.name("x" * 511), 0)
+        query = form.query()
+        nodes = [("a", query.wildcard(self.AT)) for _ in range(126)]
+        self.limit("frame", query.record, self.AT, nodes)
+        query.ask(query.record(self.AT, nodes[:125]))  # none of them was used up by what failed
+        self.assertEqual(len(sigla.answer(form.file())), 1)
+        for i in range(63):
+            form.name(f"{i:0511}")
+        self.limit("file", form.file)
+
+    def test_no_handle_serves_another(self):
+        one, two = sigla.Form(2, 32), sigla.Form(2, 32)
+        ty, foreign = one.integer(), two.integer()
+        self.limit("other_type", one.record, [("a", foreign)])
+        self.limit("other_type", one.union, [("a", 0, foreign)])
+        self.limit("other_type", one.predicate, "p", foreign)
+        self.limit("other_type", one.predicate, "p", ty, foreign)
+        p, q = one.predicate("p", ty), two.predicate("p", foreign)
+        self.limit("other_predicate", one.fact, q)
+        self.limit("other_predicate", one.define, p, ty)
+        self.limit("other_predicate", one.define, sigla.Predicate.absent(0), ty)
+        given_up = one.query()
+        old = given_up.integer(self.AT)
+        query = one.query()
+        node = query.integer(self.AT)
+        self.limit("other_node", given_up.integer, self.AT)
+        self.limit("other_node", query.value, self.AT, old)
+        self.limit("other_node", query.either, self.AT, [node, node])
+        self.limit("other_predicate", query.fact, self.AT, q, node)
+        fact = query.fact(self.AT, sigla.Predicate.absent(2 ** 32 - 1), node)
+        self.limit("other_node", query.value, self.AT, node)
+        self.limit("other_node", query.ask, fact, [sigla.Holds(fact)])
+        self.limit("no_query", one.file)
+        query.ask(fact)
+        self.limit("other_node", query.integer, self.AT)
+        self.assertEqual(len(sigla.answer(one.file())), 1)
+
+    def test_a_predicate_may_refer_to_itself(self):
+        form = sigla.Form(2, 32)
+        page, other = form.declare("page"), form.declare("other")
+        text, following = form.string(), form.fact(page)
+        key = form.record([("text", text), ("next", following)])
+        form.define(page, key)
+        query = form.query()
+        pattern = query.record(self.AT, [("next", query.variable(self.AT, "x"))])
+        fact = query.fact(self.AT, page, pattern)
+        query.ask(query.field(self.AT, "text", query.variable(self.AT, "x")), [sigla.Holds(fact)])
+        self.assertEqual(self.limit("undefined", form.file).what, "other")
+        form.define(other, text, key)
+        (typed,) = sigla.answer(form.file())
+        self.assertEqual(sigla.shown(typed.types[1], form.texts()), "{text = a string, next = `page`}")
+
+    def test_numbers_that_do_not_fit(self):
+        form = sigla.Form(2, 32)
+        query = form.query()
+        for call in (lambda: sigla.Form(256, 0), lambda: sigla.Form(0, 65536), lambda: sigla.Predicate.absent(-1), lambda: query.integer((0, 1 << 32)),
+                     lambda: query.fuzzy(self.AT, "x", 256), lambda: form.union([("a", 1 << 32, form.string())])):
+            self.assertRaises(ValueError, call)
+        self.assertRaises(TypeError, sigla.Form, "2", 32)
 
 
 if __name__ == "__main__":

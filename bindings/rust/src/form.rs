@@ -1,31 +1,4 @@
-//! A form under construction: names, a schema and queries, written as a file.
-//!
-//! Names are written as texts and numbered here. Types, predicates and nodes are handed out as handles, each of the form or the query that
-//! made it; a node's handle is used up where the node is named, so no node is named twice. What the file's limits would refuse is told when
-//! it is added, as a [`Limit`], but the file's length, a predicate without types and a form without queries ([`Limit::File`],
-//! [`Limit::Undefined`], [`Limit::NoQuery`]) by [`Form::file`]; only visits and the answer's length are known by running the file.
-//!
-//! ```
-//! use sigla::{Form, Span, Statement};
-//!
-//! let mut form = Form::new(2, 32);
-//! let string = form.string()?;
-//! let integer = form.integer()?;
-//! let key = form.record(&[("pen", string), ("pressure", integer)])?;
-//! let sample = form.predicate("sample", key, None)?;
-//!
-//! // x where sample {pen = x}
-//! let mut query = form.query()?;
-//! let pen = query.variable(Span::new(22, 23), "x")?;
-//! let pattern = query.record(Span::new(15, 24), vec![("pen", pen)])?;
-//! let fact = query.fact(Span::new(8, 24), sample, pattern)?;
-//! let head = query.variable(Span::new(0, 1), "x")?;
-//! query.ask(head, vec![Statement::Holds(fact)])?;
-//!
-//! let answer = sigla::answer(&form.file()?)?;
-//! assert_eq!(answer.queries[0].types[0], Some(sigla::Ty::String));
-//! # Ok::<(), Box<dyn std::error::Error>>(())
-//! ```
+//! The builder of files.
 
 use std::collections::HashMap;
 use std::error::Error;
@@ -207,7 +180,34 @@ struct Stored {
     types: Option<(Type, Option<Type>)>,
 }
 
-/// Names, a schema and queries; [`Form::file`] writes them.
+/// A file under construction: names, a schema and queries; [`Form::file`] writes it.
+///
+/// Names are written as texts and numbered here. Types, predicates and nodes are handed out as handles, each of the form or the query that
+/// made it; a node's handle is used up where the node is named, so no node is named twice. What the file's limits would refuse is told when
+/// it is added, as a [`Limit`], but the file's length, a predicate without types and a form without queries ([`Limit::File`],
+/// [`Limit::Undefined`], [`Limit::NoQuery`]) by [`Form::file`]; only visits and the answer's length are known by running the file.
+///
+/// ```
+/// use sigla::{Form, Span, Statement};
+///
+/// let mut form = Form::new(2, 32);
+/// let string = form.string()?;
+/// let integer = form.integer()?;
+/// let key = form.record(&[("pen", string), ("pressure", integer)])?;
+/// let sample = form.predicate("sample", key, None)?;
+///
+/// // x where sample {pen = x}
+/// let mut query = form.query()?;
+/// let pen = query.variable(Span::new(22, 23), "x")?;
+/// let pattern = query.record(Span::new(15, 24), vec![("pen", pen)])?;
+/// let fact = query.fact(Span::new(8, 24), sample, pattern)?;
+/// let head = query.variable(Span::new(0, 1), "x")?;
+/// query.ask(head, vec![Statement::Holds(fact)])?;
+///
+/// let answer = sigla::answer(&form.file()?)?;
+/// assert_eq!(answer.queries[0].types[0], Some(sigla::Ty::String));
+/// # Ok::<(), Box<dyn std::error::Error>>(())
+/// ```
 #[derive(Debug)]
 pub struct Form {
     mark: u64,

@@ -58,6 +58,17 @@ pub use ty::{Alternative, Field, Names, Shown, Tree, Ty};
 /// The version of this crate, that of the file VERSION.
 pub const VERSION: &str = env!("CARGO_PKG_VERSION");
 
+/// The version of the library that the program runs with, as [`VERSION`] is spelled.
+///
+/// ```
+/// assert_eq!(sigla::library_version(), sigla::VERSION);
+/// ```
+pub fn library_version() -> String {
+    // SAFETY: the call takes nothing and gives a number.
+    let [_, major, minor, patch] = unsafe { sigla_version() }.to_be_bytes();
+    format!("{major}.{minor}.{patch}")
+}
+
 /// The words that must be lent.
 pub const WORDS: usize = 16384;
 
@@ -71,6 +82,7 @@ pub const STACK: usize = 1_048_576;
 pub const QUERIES: usize = 64;
 
 unsafe extern "C" {
+    fn sigla_version() -> u32;
     fn sigla_check(file: *const u8, file_len: usize, work: *mut u32, work_len: usize, answer: *mut u8, answer_len: usize) -> u8;
     fn sigla_lamp(file: *const u8, file_len: usize, work: *mut u32, work_len: usize, lit: *mut u32) -> u8;
     fn sigla_widen(file: *const u8, file_len: usize, work: *mut u32, work_len: usize, out: *mut u8, out_len: usize) -> u8;

@@ -11,33 +11,33 @@ pub enum Refusal {
     WorkTooShort,
     /// 2: the file has more than 65,536 bytes.
     FileTooLong,
-    /// 3: a line is empty, odd, has another character, more than 512 bytes, or no LF.
+    /// 3: a line is empty, has an odd number of digits, another character, more than 512 bytes, or no LF.
     MalformedLine,
-    /// 4: a kind is unknown or misplaced, or the last line is no query.
+    /// 4: a kind is unknown or stands where it may not, or the file does not end with a query.
     MisplacedKind,
-    /// 5: over 256 names or types, 128 predicates, or 512 nodes of a query.
+    /// 5: there are over 256 names, 256 types, 128 predicates, or 512 nodes of a query.
     TooMany,
-    /// 6: a frame does not have its kind's form.
+    /// 6: a frame has an unknown shape, flag or statement byte, or is too short or too long for it.
     MalformedFrame,
     /// 7: a text is not UTF-8.
     BrokenText,
     /// 8: a name was given before.
     NameGivenBefore,
-    /// 9: a reference to nothing earlier, or to a node named before.
+    /// 9: a reference is to a name, type or node that no earlier line gives, or to a node that was named before.
     BadReference,
     /// 10: a record type repeats a name, or a union type a discriminant.
     RepeatedKey,
     /// 11: a query needs more than 1,048,576 visits.
     TooManyVisits,
-    /// 12: the answer is longer than its slice.
+    /// 12: the answer is longer than the answer slice.
     AnswerTooLong,
-    /// 13: over 64 queries.
+    /// 13: there are more than 64 queries.
     TooManyQueries,
-    /// 14: a predicate's number above 65,535, on the way to the narrow edition.
+    /// 14: a predicate's number above 65,535 does not fit in the narrow edition.
     NumberTooWide,
     /// 15: a total of the tally would pass 32 bits, or its remainder is over 999.
     TallyTooLarge,
-    /// 16: a query needs more visits than the desk's ceiling.
+    /// 16: a query needs more visits than the desk's ceiling, which is under 1,048,576.
     CeilingPassed,
     /// 17: the desk number or the group of desks is outside the rules.
     OutsideTheRules,
@@ -51,20 +51,20 @@ pub enum Refusal {
 const REFUSALS: [(u8, Refusal, &str); 18] = [
     (1, Refusal::WorkTooShort, "the work slice has fewer than 16,384 words"),
     (2, Refusal::FileTooLong, "the file has more than 65,536 bytes"),
-    (3, Refusal::MalformedLine, "a line is empty, odd, has another character, more than 512 bytes, or no LF"),
-    (4, Refusal::MisplacedKind, "a kind is unknown or stands where it may not, or the last line is no query"),
+    (3, Refusal::MalformedLine, "a line is empty, has an odd number of digits, another character, more than 512 bytes, or no LF"),
+    (4, Refusal::MisplacedKind, "a kind is unknown or stands where it may not, or the file does not end with a query"),
     (5, Refusal::TooMany, "there are over 256 names, 256 types, 128 predicates, or 512 nodes of a query"),
-    (6, Refusal::MalformedFrame, "a frame does not have its kind's form"),
+    (6, Refusal::MalformedFrame, "a frame has an unknown shape, flag or statement byte, or is too short or too long for it"),
     (7, Refusal::BrokenText, "a text is not UTF-8"),
     (8, Refusal::NameGivenBefore, "a name was given before"),
-    (9, Refusal::BadReference, "a reference is to nothing earlier, or to a node that was named before"),
+    (9, Refusal::BadReference, "a reference is to a name, type or node that no earlier line gives, or to a node that was named before"),
     (10, Refusal::RepeatedKey, "a record type repeats a name, or a union type a discriminant"),
     (11, Refusal::TooManyVisits, "a query needs more than 1,048,576 visits"),
     (12, Refusal::AnswerTooLong, "the answer is longer than the answer slice"),
     (13, Refusal::TooManyQueries, "there are more than 64 queries"),
     (14, Refusal::NumberTooWide, "a predicate's number above 65,535 does not fit in the narrow edition"),
     (15, Refusal::TallyTooLarge, "a total of the tally would pass 32 bits, or its remainder is over 999"),
-    (16, Refusal::CeilingPassed, "a query needs more visits than the desk's ceiling"),
+    (16, Refusal::CeilingPassed, "a query needs more visits than the desk's ceiling, which is under 1,048,576"),
     (17, Refusal::OutsideTheRules, "the desk number or the group of desks is outside the rules"),
     (18, Refusal::TooFewWords, "the plain solver needs more words than were lent to it"),
 ];

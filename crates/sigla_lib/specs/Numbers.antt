@@ -1,5 +1,5 @@
 -- How an outcome goes as a number: 0, or the number of the refusal. A group goes as fifty words, a tally as three (ledger/specs/Words.antt).
-use Rattle.std.specs.Prelude.{Bool, true, false, Option, Some, None, unwrap_or, Result, Ok, Err, List, ◌≡◌, ℕ, length, replicate}
+use Rattle.std.specs.Prelude.{Bool, true, false, Option, Some, None, unwrap_or, Result, Ok, Err, List, ◌≡◌, ℕ, ◌+◌, ◌*◌, length, replicate}
 use Rattle.format.specs.Refusal.{number}
 use Rattle.reading.specs.Promises.{refusal}
 use Rattle.driver.specs.declared.Desked.{Desked}
@@ -17,6 +17,10 @@ use Rattle.cabinet.specs.declared.Group.{Group}
 use Rattle.cabinet.specs.Promises.{SetsUp, Ceils, Rests, left}
 use Rattle.ledger.specs.Words.{group_of, group_words, tally_of, tally_words}
 use Rattle.reading.specs.declared.Refusal.{Refusal}
+
+-- A version of three numbers as one.
+abbrev pub version_number : ℕ → ℕ → ℕ → ℕ
+version_number major minor patch = (major * 256 + minor) * 256 + patch
 
 abbrev pub outcome_number : Result ℕ Refusal → ℕ
 outcome_number (Ok n) = 0

@@ -2,7 +2,7 @@
 // gives back 0, or the number of the refusal.
 #![tactic(auto, unfolding(format::specs::Refusal::number))]
 
-ghost use Rattle.sigla_lib.specs.Numbers.{CallsCheck, CallsLamp, CallsInspect, CallsWiden, CallsNarrow, CallsTally, CallsSetUp, CallsCeiling, CallsNewDay, CallsCheckAt, CallsGrowth, CallsLoad, outcome_number, or_else};
+ghost use Rattle.sigla_lib.specs.Numbers.{CallsCheck, CallsLamp, CallsInspect, CallsWiden, CallsNarrow, CallsTally, CallsSetUp, CallsCeiling, CallsNewDay, CallsCheckAt, CallsGrowth, CallsLoad, outcome_number, or_else, version_number};
 ghost use Rattle.cabinet.specs.Promises.{left};
 ghost use Rattle.format.specs.Refusal.{number};
 ghost use Rattle.reading.specs.Promises.{refusal};
@@ -33,6 +33,19 @@ fn left<T>(r: Result<T, T>, e: Refusal) -> (T, u8)
         Err(x) => (x, driver::refusal_number(e)),
     }
 }
+
+// ---- The version
+
+// Which version of the library a program was linked with: two hexadecimal digits each of the major number, the minor
+// one and the patch, so that a later version has a larger number. `tools/version` writes them.
+#[unsafe(no_mangle)]
+pub extern "C" fn sigla_version() -> u32
+    ensures { result ≡ version_number 0 3 0 }
+{
+    0x00_03_00
+}
+
+// ---- The check
 
 // The answer stands in `out` up to the first zero byte.
 #[unsafe(no_mangle)]
