@@ -134,21 +134,26 @@ static void limits_of_queries(void) {
     DONE(sigla_form_ask(&form, more, NULL, 0));
     HOLDS(outcome(NULL) == SIGLA_ACCEPTED);
 
-    /* a file of 65,536 bytes, and of one line more */
-    begin();
-    for (unsigned i = 0; i < 63; i++) {
-        snprintf(text, sizeof text, "%0511u", i);
+    /* a file of 65,536 bytes, and of one byte more */
+    for (size_t wanted = SIGLA_FILE_BYTES; wanted <= SIGLA_FILE_BYTES + 1; wanted++) {
+        begin();
+        for (unsigned i = 0; i < 63; i++) {
+            snprintf(text, sizeof text, "%0511u", i);
+            DONE(sigla_form_name(&form, text, &number));
+        }
+        ask(&form);
+        DONE(sigla_form_write(&form, file, sizeof file, &length));
+        if ((wanted - length) % 2 == 0) {                   /* a line has an odd number of bytes */
+            DONE(sigla_form_name(&form, "", &number));
+            length += 3;
+        }
+        snprintf(text, sizeof text, "%0*u", (int)(wanted - length - 3) / 2, 1);
         DONE(sigla_form_name(&form, text, &number));
+        IS(sigla_form_write(&form, file, sizeof file, &length), wanted == SIGLA_FILE_BYTES ? SIGLA_FORM_OK : SIGLA_FORM_FILE);
+        HOLDS(length == wanted);
+        HOLDS(sigla_check(file, length, work, SIGLA_WORDS, answer, sizeof answer) ==
+              (wanted == SIGLA_FILE_BYTES ? SIGLA_ACCEPTED : sigla_form_refusal(SIGLA_FORM_FILE)));
     }
-    ask(&form);
-    HOLDS(outcome(NULL) == SIGLA_ACCEPTED && length < SIGLA_FILE_BYTES);
-    DONE(sigla_form_name(&form, "", &number));
-    snprintf(text, sizeof text, "%0*u", (int)(SIGLA_FILE_BYTES - length - 3 - 3) / 2, 1);
-    DONE(sigla_form_name(&form, text, &number));
-    HOLDS(outcome(NULL) == SIGLA_ACCEPTED && length > SIGLA_FILE_BYTES - 4);
-    DONE(sigla_form_name(&form, "zz", &number));
-    IS(sigla_form_write(&form, file, sizeof file, &length), SIGLA_FORM_FILE);
-    HOLDS(sigla_check(file, length, work, SIGLA_WORDS, answer, sizeof answer) == sigla_form_refusal(SIGLA_FORM_FILE));
 }
 
 static void handles_of_others(void) {
@@ -171,9 +176,11 @@ static void handles_of_others(void) {
     DONE(sigla_form_predicate(&other, "p", foreign, NULL, &q));
     IS(sigla_form_type_fact(&form, q, &type), SIGLA_FORM_OTHER_PREDICATE);
     DONE(sigla_form_type_integer(&form, &type));
+    DONE(sigla_form_declare(&form, "p", &p));
+    HOLDS(p.number == q.number);
     IS(sigla_form_define(&form, q, type, NULL), SIGLA_FORM_OTHER_PREDICATE);
     IS(sigla_form_define(&form, sigla_form_absent(0), type, NULL), SIGLA_FORM_OTHER_PREDICATE);
-    DONE(sigla_form_predicate(&form, "p", type, NULL, &p));
+    DONE(sigla_form_define(&form, p, type, NULL));
     IS(sigla_form_define(&form, p, type, NULL), SIGLA_FORM_OTHER_PREDICATE);
 
     DONE(sigla_form_query(&other));
@@ -193,8 +200,11 @@ static void handles_of_others(void) {
     /* a query that is given up: its nodes are no others', its names stay, and what else was made meanwhile */
     DONE(sigla_form_variable(&form, AT, "kept", &made));
     DONE(sigla_form_type_string(&form, &type));
+    made = one;
     DONE(sigla_form_query(&form));
     DONE(sigla_form_integer(&form, AT, &one));
+    HOLDS(made.number == one.number);
+    IS(sigla_form_ask(&form, made, NULL, 0), SIGLA_FORM_OTHER_NODE);
     IS(sigla_form_ask(&form, two, NULL, 0), SIGLA_FORM_OTHER_NODE);
     uint16_t number;
     HOLDS(sigla_form_name(&form, "kept", &number) == SIGLA_FORM_OK && number == 2);
@@ -202,6 +212,12 @@ static void handles_of_others(void) {
     DONE(sigla_form_ask(&form, one, NULL, 0));
     HOLDS(outcome(NULL) == SIGLA_ACCEPTED);
     const char *all = "01020020\n0261\n0270\n026b657074\n026c61746572\n0300\n0300\n0300\n0301\n040001000200\n05000000000000000000\n060000\n";
+    HOLDS(length == strlen(all) && memcmp(file, all, length) == 0);
+
+    /* one that has not asked yet is left out */
+    DONE(sigla_form_query(&form));
+    DONE(sigla_form_integer(&form, AT, &one));
+    DONE(sigla_form_write(&form, file, sizeof file, &length));
     HOLDS(length == strlen(all) && memcmp(file, all, length) == 0);
 
     /* a predicate that refers to itself, and one that is never defined */

@@ -32,8 +32,11 @@ fn assembled(name: &str) -> Vec<u8> {
     done.stdout
 }
 
-/// The codes of each query, or the refusal's number.
-fn outcome(file: &[u8]) -> Result<Vec<Vec<String>>, u8> {
+/// The codes of each query's diagnostics, or the refusal's number.
+type Outcome = Result<Vec<Vec<String>>, u8>;
+
+/// What the library says of a file.
+fn outcome(file: &[u8]) -> Outcome {
     let codes = |query: &sigla::Typed| query.diagnostics.iter().map(|diagnostic| diagnostic.code.clone()).collect();
     match sigla::answer(file) {
         Ok(answer) => Ok(answer.queries.iter().map(codes).collect()),
@@ -43,7 +46,7 @@ fn outcome(file: &[u8]) -> Result<Vec<Vec<String>>, u8> {
 }
 
 /// Each sample with the codes of its queries, or the number by which it is turned down.
-fn expected() -> Vec<(&'static str, Result<Vec<Vec<String>>, u8>)> {
+fn expected() -> Vec<(&'static str, Outcome)> {
     let clean = || Ok(vec![vec![]]);
     let one = |code: &str| Ok(vec![vec![code.to_string()]]);
     vec![
