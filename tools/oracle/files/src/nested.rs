@@ -53,6 +53,11 @@ pub fn stacked() -> Vec<(String, Vec<u8>)> {
             }
         }
     }
+    for kind in 0..3 {
+        for inner in 0..5 {
+            files.push((format!("facts-{kind}-{inner}"), facts(kind, inner)));
+        }
+    }
     files
 }
 
@@ -121,6 +126,49 @@ fn stack(first: usize, second: usize, kind: usize, end: usize) -> Vec<u8> {
         let way = if turn % 2 == 0 { first } else { second };
         at = around(&mut draft, way, at);
         turn += 1;
+    }
+    draft.head = at;
+    draft.bytes()
+}
+
+/// Facts in facts, as many as there are nodes, of a predicate whose key is the deepest type, which meets itself
+/// at the bottom: as a fact's value, or as a variable that has it.
+fn facts(kind: usize, inner: usize) -> Vec<u8> {
+    let mut draft = draft();
+    let ty = deepest(&mut draft, kind);
+    draft.predicate(0, ty, Some(ty));
+    let mut at = match inner {
+        0 => {
+            let key = draft.node(Expr::Wildcard);
+            let fact = draft.node(Expr::Fact(0, key));
+            draft.node(Expr::Value(fact))
+        }
+        1 => {
+            let left = draft.var(1);
+            let key = draft.node(Expr::Wildcard);
+            let fact = draft.node(Expr::Fact(0, key));
+            draft.bind(left, fact);
+            let base = draft.var(1);
+            draft.node(Expr::Value(base))
+        }
+        2 => {
+            holds(&mut draft, 0, 1);
+            draft.var(1)
+        }
+        // In an operand and in a branch, which are unified in a frame further down.
+        3 => {
+            holds(&mut draft, 0, 1);
+            let operand = draft.var(1);
+            draft.node(Expr::Arith(vec![operand]))
+        }
+        _ => {
+            holds(&mut draft, 0, 1);
+            let (left, right) = (draft.var(1), draft.var(1));
+            draft.node(Expr::Disjunction(vec![left, right]))
+        }
+    };
+    while draft.nodes.len() < NODES {
+        at = draft.node(Expr::Fact(0, at));
     }
     draft.head = at;
     draft.bytes()
