@@ -3,6 +3,9 @@
 // are told apart by the start of their first span, which is part of a file: where these numbers differ, so do the files.
 #![tactic(auto)]
 
+ghost use Rattle.std.specs.Prelude.{◌≡◌, ◌+◌, All, replicate};
+ghost use Rattle.load_counts.specs.Counts.{byte_of, one_more, OneMore};
+
 use std::io;
 
 // What a line has to be counted: two digits are a byte. A node's shape is the number that the file has for it.
@@ -24,7 +27,9 @@ struct Counts {
 }
 
 // The byte that two digits stand for.
-fn byte(digits: &[u8; 2]) -> u8 {
+fn byte(digits: &[u8; 2]) -> u8
+    ensures { result ≡ byte_of digits.now }
+{
     let [high, low] = *digits;
     16 * sigla_hex::digit(high).unwrap_or(0) + sigla_hex::digit(low).unwrap_or(0)
 }
@@ -41,14 +46,19 @@ fn line_of(digits: &[u8]) -> Option<Line<'_>> {
     }
 }
 
-fn add_one(count: Option<&mut usize>) {
-    if let Some(n) = count {
-        *n = n.wrapping_add(1);
-    }
+fn add_one(count: &mut usize)
+    ensures { count.new ≡ one_more count.old }
+{
+    *count = count.wrapping_add(1);
 }
 
 impl Counts {
-    fn new() -> Counts {
+    fn new() -> Counts
+        ensures shapes { result.shapes ≡ replicate 17 0 }
+        ensures statements { result.statements ≡ replicate 5 0 }
+        ensures codes { All (λ c. c.1 ≡ 0) result.codes }
+        ensures files { result.accepted + result.with_diagnostic + result.without ≡ 0 }
+    {
         Counts {
             shapes: [0; 17],
             statements: [0; 5],
@@ -75,11 +85,15 @@ impl Counts {
     }
 
     // A statement is its kind and two bytes or four, so that no `for` goes over them.
-    fn count_statements(&mut self, statements: &[[u8; 2]]) {
+    fn count_statements(&mut self, statements: &[[u8; 2]])
+        ensures { self.new ≡ record self.old { statements = self.new.statements } }
+    {
         let mut rest = statements;
         while let [kind, _, _, more @ ..] = rest {
             let kind = byte(kind);
-            add_one(self.statements.get_mut(usize::from(kind)));
+            if let Some(n) = self.statements.get_mut(usize::from(kind)) {
+                add_one(n);
+            }
             rest = match (kind, more) {
                 (1 | 2, _) => more,
                 (_, [_, _, more @ ..]) => more,
@@ -88,23 +102,32 @@ impl Counts {
         }
     }
 
-    fn count_code(&mut self, code: &[[u8; 2]]) {
+    fn count_code(&mut self, code: &[[u8; 2]])
+        ensures { self.new ≡ record self.old { codes = self.new.codes } }
+    {
         let seen = self
             .codes
             .iter_mut()
             .find(|(text, _)| code.iter().map(byte).eq(text.bytes()));
-        add_one(seen.map(|(_, n)| n));
+        if let Some((_, n)) = seen {
+            add_one(n);
+        }
     }
 
     // The lines of a file and of its answer. Gives the start of the first span.
-    fn count_lines(&mut self, file: &[u8], answer: &[u8]) -> Option<u32> {
+    fn count_lines(&mut self, file: &[u8], answer: &[u8]) -> Option<u32>
+        ensures accepted { self.new.accepted ≡ self.old.accepted }
+        ensures file { OneMore self.old.with_diagnostic self.old.without self.new.with_diagnostic self.new.without }
+    {
         let mut first = None;
         let mut diagnosed = false;
         for text in [file, answer] {
             for line in text.split(|b| *b == b'\n') {
                 match line_of(line) {
                     Some(Line::Node { start, shape }) => {
-                        add_one(self.shapes.get_mut(usize::from(shape)));
+                        if let Some(n) = self.shapes.get_mut(usize::from(shape)) {
+                            add_one(n);
+                        }
                         first = first.or(Some(start));
                     }
                     Some(Line::Statements(statements)) => self.count_statements(statements),
@@ -117,9 +140,9 @@ impl Counts {
             }
         }
         if diagnosed {
-            add_one(Some(&mut self.with_diagnostic));
+            add_one(&mut self.with_diagnostic);
         } else {
-            add_one(Some(&mut self.without));
+            add_one(&mut self.without);
         }
         first
     }
@@ -130,7 +153,7 @@ impl Counts {
         let file = &file[..n];
         match driver::check_file(file, work, out) {
             Ok(m) => {
-                add_one(Some(&mut self.accepted));
+                add_one(&mut self.accepted);
                 self.count_lines(file, &out[..m])
             }
             Err(_) => self.count_lines(file, &[]),
