@@ -2,8 +2,9 @@
 #![tactic(auto)]
 
 use program::Job;
+use std::process::ExitCode;
 
 // A program has a `main` of its own: what they share is `run`.
-fn main(rt: HostRuntime) {
-    program::run(&rt, &mut rt.stdin(), Job::Narrow);
+fn main(rt: HostRuntime) -> ExitCode {
+    program::run(&rt, &mut rt.stdin(), &mut rt.stdout(), Job::Narrow)
 }

@@ -1,3 +1,4 @@
 mod Printing
 mod Jobs
 pub mod Lamps
+pub mod Edge

@@ -1,5 +1,6 @@
 -- What the functions of src/ promise: what is printed for a file is what the definition prints (`printed_lines` of meaning/specs/Outcome.antt).
-use Rattle.std.specs.Prelude.{List, ◌++◌, ◌≡◌, ℕ, ◌-◌, length, replicate}
+use Rattle.std.specs.Prelude.{List, ◌++◌, ◌≡◌, ℕ, ◌-◌, length, replicate, IfSome, Option}
+use Rattle.std.specs.Io.KnownBytes.{Appends}
 use Rattle.meaning.specs.Outcome.{Decided, min_words, decide, printed_lines}
 use Rattle.meaning.specs.Lamp.{lamp}
 use Rattle.lamp.specs.Promises.{lamp_line}
@@ -23,3 +24,16 @@ pub record Prints (x : Decided) (w' out' : List ℕ) (r : ℕ) : Type 0 where
 pub record PrintsLamp (f w' r : List ℕ) : Type 0 where
   pub line : r ≡ lamp_line (lamp f min_words)
   pub work : w' ≡ replicate min_words 0
+
+-- ---- The programs
+
+-- what a program prints for a file
+abbrev pub lines_by : Job → List ℕ → List ℕ
+lines_by job f = printed_lines (decided_by job f min_words) 65536
+
+abbrev pub lamp_lines : List ℕ → List ℕ
+lamp_lines f = lamp_line (lamp f min_words)
+
+-- Where a reader's bytes are known, those are the file, to the last, and a writer gains what is printed for it, and nothing else.
+abbrev pub Writes : {R W : Type 0} → (R → Option (List ℕ)) → (W → Option (List ℕ)) → (List ℕ → List ℕ) → R → W → W → Type 0
+Writes remaining contents lines from to to' = IfSome (remaining from) (λ f. Appends (contents to) (contents to') (lines f))

@@ -2,13 +2,18 @@
 // standard input. The file and both slices go as the calls take them.
 #![tactic(auto)]
 
-ghost use Rattle.std.specs.Prelude.{◌≤◌, length, IfOk};
+ghost use Rattle.std.specs.Prelude.{◌≡◌, ◌≤◌, length, take, Err, IfOk, IfSome, OnErr, OnOk};
+ghost use Rattle.std.specs.Io.KnownBytes.{Appends, Keeps};
+ghost use Rattle.std.specs.Process.{exit_status};
 ghost use Rattle.meaning.specs.Outcome.{min_words};
 ghost use Rattle.driver.specs.Promises.{Finishes};
-ghost use Rattle.program.specs.Promises.{decided_by, Prints, PrintsLamp};
+ghost use Rattle.program.specs.Promises.{decided_by, Prints, PrintsLamp, lines_by, lamp_lines, Writes};
+ghost use Rattle.input.specs.declared.Failure.{Failure};
 
+use input::Failure;
 use reading::Refusal;
-use std::io::Read;
+use std::io::{Read, Write};
+use std::process::ExitCode;
 
 // What a program does with its file.
 #[derive(Drop)]
@@ -54,46 +59,57 @@ pub fn lamp_line(file: &[u8], work: &mut [u32; 16384]) -> [u8; 5]
 }
 
 // What `from` gives is the file. One byte more is read than a file may have, so that a longer one is refused.
-pub fn run(rt: &(impl Print + Eprint), from: &mut impl Read, job: Job) {
-    tell(rt, answer(rt, from, job));
-}
-
-fn answer(rt: &impl Print, from: &mut impl Read, job: Job) -> Result<(), &'static str> {
+fn answer<R: Read, W: Write>(from: &mut R, to: &mut W, job: Job) -> Result<(), Failure>
+    ensures done { OnOk result (Writes R.remaining W.contents (lines_by job) from.old to.old to.new) }
+    ensures none { result ≡ Err Failure.Reading → Keeps (W.contents to.old) (W.contents to.new) }
+{
     let mut file = [0; 65537];
     let mut work = [0; 16384];
     let mut out = [0; 65536];
     let n = read(from, &mut file)?;
     let m = printed(job, &file[..n], &mut work, &mut out);
-    write(rt, &out[..m])
+    write(to, &out[..m])
 }
 
 // The lamp of the file that `from` gives.
-pub fn run_lamp(rt: &(impl Print + Eprint), from: &mut impl Read) {
-    tell(rt, light(rt, from));
-}
-
-fn light(rt: &impl Print, from: &mut impl Read) -> Result<(), &'static str> {
+fn light<R: Read, W: Write>(from: &mut R, to: &mut W) -> Result<(), Failure>
+    ensures done { OnOk result (Writes R.remaining W.contents lamp_lines from.old to.old to.new) }
+    ensures none { result ≡ Err Failure.Reading → Keeps (W.contents to.old) (W.contents to.new) }
+{
     let mut file = [0; 65537];
     let mut work = [0; 16384];
     let n = read(from, &mut file)?;
-    write(rt, &lamp_line(&file[..n], &mut work))
+    write(to, &lamp_line(&file[..n], &mut work))
 }
 
-fn read(from: &mut impl Read, file: &mut [u8]) -> Result<usize, &'static str>
-    ensures { IfOk result (λ n. n ≤ length file.new) }
+fn read<R: Read>(from: &mut R, file: &mut [u8]) -> Result<usize, Failure>
+    ensures bound { IfOk result (λ n. n ≤ length file.new) }
+    ensures front { IfOk result (λ n. IfSome (R.remaining from.old) (λ f. take n file.new ≡ take (length file.new) f)) }
+    ensures fails { OnErr result (result ≡ Err Failure.Reading) }
 {
-    input::read_all(from, file).or(Err("reading standard input failed"))
+    input::read_all(from, file).or(Err(Failure::Reading))
 }
 
-fn write(rt: &impl Print, bytes: &[u8]) -> Result<(), &'static str> {
-    rt.write_all(bytes)
-        .or(Err("writing standard output failed"))
+fn write<W: Write>(to: &mut W, bytes: &[u8]) -> Result<(), Failure>
+    ensures all { OnOk result (Appends (W.contents to.old) (W.contents to.new) bytes.now) }
+    ensures fails { OnErr result (result ≡ Err Failure.Writing) }
+{
+    to.write_all(bytes).or(Err(Failure::Writing))
 }
 
-// What failed is a line on standard error: where that fails too, there is no one left to tell. sigla_load and
-// sigla_inspect have this line too: for it alone they would stand on this crate, and on all that it uses.
-fn tell(rt: &impl Eprint, outcome: Result<(), &'static str>) {
-    if let Err(line) = outcome {
-        let _ = rt.eprintln(line);
-    }
+// A program but for its name: a `main` gives standard input and standard output. Where the status is 0, what was
+// written is what the definition prints for all that was there to be read, and nothing else.
+pub fn run<R: Read, W: Write>(rt: &impl Eprint, from: &mut R, to: &mut W, job: Job) -> ExitCode
+    ensures { exit_status result ≡ 0 → Writes R.remaining W.contents (lines_by job) from.old to.old to.new }
+{
+    let outcome = answer(from, to, job);
+    input::ending(rt, outcome)
+}
+
+// The same for the lamp.
+pub fn run_lamp<R: Read, W: Write>(rt: &impl Eprint, from: &mut R, to: &mut W) -> ExitCode
+    ensures { exit_status result ≡ 0 → Writes R.remaining W.contents lamp_lines from.old to.old to.new }
+{
+    let outcome = light(from, to);
+    input::ending(rt, outcome)
 }

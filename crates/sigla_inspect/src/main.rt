@@ -6,6 +6,7 @@ use inspect::Inspected;
 use std::env::Env;
 use std::io;
 use std::io::Read;
+use std::process::ExitCode;
 
 fn argument(rt: &HostRuntime) -> Option<u32> {
     let mut text = [0u8; 4096];
@@ -79,9 +80,9 @@ fn answer(rt: &HostRuntime, from: &mut impl Read) -> Result<(), &'static str> {
     say_inspected(rt, r, &lent).or(Err("writing standard output failed"))
 }
 
-fn main(rt: HostRuntime) {
-    if let Err(line) = answer(&rt, &mut rt.stdin()) {
-        // Where that fails too, there is no one left to tell.
-        let _ = rt.eprintln(line);
+fn main(rt: HostRuntime) -> ExitCode {
+    match answer(&rt, &mut rt.stdin()) {
+        Ok(()) => ExitCode::SUCCESS,
+        Err(line) => input::failed(&rt, line),
     }
 }
