@@ -4,7 +4,7 @@ use Rattle.std.specs.Io.KnownBytes.{Consumes}
 use Rattle.std.proofs.KnownBytes.{Consumes-trans}
 use borrow.Rule.Slice.PartMut.{put_mid, post_of}
 use lib.Seq.{take-add, take-append-le}
-use Rattle.input.proofs.read_all.Goals as goal
+use Rattle.input.proofs.read.Goals as goal
 
 take_split : (a b : ℕ) (old new : List ℕ) → a ≤ b → take a new ≡ take a old → take a old ++ slice_range new a b ≡ take b new
 take_split a b old new h front =
@@ -22,6 +22,6 @@ loop-n-preserved g c =
     let from = c.loop-n.n in
     let room = length c.loop-n.into - from in
     let within = c.loop-n.invariant.0 in
-    let part = slice_range-put_mid from room c.in_ok-more.more c.loop-n.into c.read_some.new.into within c.in_ok-more.ensures.bound.0 in
-    let joined = take_split from (from + c.in_ok-more.more) c.loop-n.into (put_mid from room c.loop-n.into c.read_some.new.into) (omega arith) (take-put_mid_below _ _ _ _ _ (le_refl _) within) in
-    (search rules, search rules, subst (Consumes _ _) (ap (λ l. take from c.loop-n.into ++ l) (sym part) ∙ joined) (Consumes-trans _ _ _ _ _ c.loop-n.invariant.2 c.in_ok-more.ensures.bytes.0))
+    let part = slice_range-put_mid from room c.in-Ok.more c.loop-n.into c.read_some.new.into within c.in-Ok.ensures.bound.0 in
+    let joined = take_split from (from + c.in-Ok.more) c.loop-n.into (put_mid from room c.loop-n.into c.read_some.new.into) (omega arith) (take-put_mid_below _ _ _ _ _ (le_refl _) within) in
+    (search rules, search rules, subst (Consumes _ _) (ap (λ l. take from c.loop-n.into ++ l) (sym part) ∙ joined) (Consumes-trans _ _ _ _ _ c.loop-n.invariant.2 c.in-Ok.ensures.bytes.0))

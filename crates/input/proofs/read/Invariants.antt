@@ -1,7 +1,7 @@
 -- A byte at least is read in each turn that goes on, and the slice keeps its length.
 use Rattle.std.proofs.Common.{length, take, ◌-◌, ◌≡◌, ◌≤◌}
 use Rattle.std.specs.Io.KnownBytes.{Consumes}
-use Rattle.input.proofs.read_all.Given as goal
+use Rattle.input.proofs.read.Given as goal
 
 abbrev pub invariant-loop-n : goal.invariant-loop-n
 invariant-loop-n g l = (l.n ≤ length l.into) × (length l.into ≡ length l.initial.into)

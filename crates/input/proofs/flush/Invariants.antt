@@ -1,0 +1,6 @@
+-- A flush takes no byte back.
+use Rattle.std.specs.Io.KnownBytes.{Keeps}
+use Rattle.input.proofs.flush.Given as goal
+
+abbrev pub invariant-loop : goal.invariant-loop
+invariant-loop g l = Keeps (g.W.Write.contents l.initial.to) (g.W.Write.contents l.to)
