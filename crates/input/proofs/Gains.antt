@@ -1,7 +1,7 @@
 -- What is handed over piece by piece comes to the whole, or to a part of it from its start.
-use Rattle.std.proofs.Common.{ℕ, ◌+◌, ◌-◌, ◌≤◌, List, ◌++◌, ◌≡◌, length, take, drop, arith, sym, ap, ◌∙◌, subst, length-append, take_all, le_refl, Option}
-use Rattle.std.specs.Io.KnownBytes.{Appends}
-use Rattle.std.proofs.KnownBytes.{Appends-trans}
+use Rattle.std.proofs.Common.{ℕ, ◌+◌, ◌-◌, ◌≤◌, List, [], ◌++◌, ◌≡◌, length, take, drop, arith, sym, ap, ◌∙◌, subst, length-append, take_all, le_refl, Option}
+use Rattle.std.specs.Io.KnownBytes.{Appends, Keeps}
+use Rattle.std.proofs.KnownBytes.{Appends-nil, Appends-trans, Appends-kept}
 use lib.Seq.{take-add, take-take, take-append-le, take-append-add}
 use Rattle.input.specs.Gains.{GainsFrontOf}
 
@@ -21,3 +21,7 @@ first_gained a b xs ys (k, fits, h) =
 pub second_gained : (a b c : Option (List ℕ)) (xs ys : List ℕ) → Appends a b xs → GainsFrontOf b c ys → GainsFrontOf a c (xs ++ ys)
 second_gained a b c xs ys first (k, fits, h) =
     (length xs + k, omega (arith, fits, length-append xs ys), subst (Appends a c) (sym (take-append-add xs ys k)) (Appends-trans a b c xs (take k ys) first h))
+
+-- nothing is a part
+pub none_gained : (a b : Option (List ℕ)) (bs : List ℕ) → Keeps a b → GainsFrontOf a b bs
+none_gained a b bs h = (0, omega arith, Appends-kept a a b [] (Appends-nil a) h)

@@ -37,3 +37,13 @@ abbrev pub text_about : Page → About → List ℕ
 text_about page About.Help = page.help.now
 text_about page About.Version = version_line page.name.now
 text_about page About.Usage = []
+
+-- what it prints for a file, where it is asked to answer it by these lines
+abbrev pub asked_lines : Page → Request → (List ℕ → List ℕ) → List ℕ → List ℕ
+asked_lines page Request.Answer lines f = lines f
+asked_lines page (Request.About about) lines f = text_about page about
+
+-- the exit status of a program that reads and writes: its answer is whole, or something failed
+abbrev pub EndsBy : Request → ℕ → Type 0
+EndsBy Request.Answer status = status ≤ 1
+EndsBy (Request.About about) status = Ends about status

@@ -118,3 +118,102 @@ pub fn number(s: &[u8]) -> Option<u32>
     }
     text.parse().ok()
 }
+
+// When a reader or a writer may fail, no clause says: a body that only fails meets them all.
+#[cfg(test)]
+mod tests {
+    use super::{Failure, read, write};
+    use std::io;
+    use std::io::{ErrorKind, Read, Write};
+
+    // One byte moves in a call, after a call that a signal cut short. Where `end` is reached, there is an end, or a
+    // failure.
+    #[derive(Drop)]
+    struct Stutter {
+        bytes: [u8; 8],
+        at: usize,
+        end: usize,
+        fails: bool,
+        interrupts: bool,
+    }
+
+    fn stuttering(bytes: [u8; 8], end: usize, fails: bool) -> Stutter {
+        Stutter {
+            bytes,
+            at: 0,
+            end,
+            fails,
+            interrupts: false,
+        }
+    }
+
+    impl Stutter {
+        fn is_at_end(&mut self) -> io::Result<bool> {
+            self.interrupts = !self.interrupts;
+            if self.interrupts {
+                return Err(io::Error::from(ErrorKind::Interrupted));
+            }
+            if self.at < self.end {
+                return Ok(false);
+            }
+            if self.fails {
+                return Err(io::Error::from(ErrorKind::Other));
+            }
+            Ok(true)
+        }
+    }
+
+    impl Read for Stutter {
+        fn read(&mut self, buf: &mut [u8]) -> io::Result<usize> {
+            if self.is_at_end()? || buf.is_empty() || self.at >= 8 {
+                return Ok(0);
+            }
+            buf[0] = self.bytes[self.at];
+            self.at += 1;
+            Ok(1)
+        }
+    }
+
+    impl Write for Stutter {
+        fn write(&mut self, buf: &[u8]) -> io::Result<usize> {
+            if self.is_at_end()? || buf.is_empty() || self.at >= 8 {
+                return Ok(0);
+            }
+            self.bytes[self.at] = buf[0];
+            self.at += 1;
+            Ok(1)
+        }
+
+        fn flush(&mut self) -> io::Result<()> {
+            self.interrupts = !self.interrupts;
+            if self.interrupts {
+                return Err(io::Error::from(ErrorKind::Interrupted));
+            }
+            Ok(())
+        }
+    }
+
+    #[test]
+    fn reads_what_comes_in_pieces(rt: HostRuntime) {
+        let mut into = [0; 8];
+        let got = read(&mut stuttering(*b"abcdefgh", 5, false), &mut into);
+        assert_eq!(rt; got.ok(), Some(5));
+        assert_eq!(rt; &into, b"abcde\0\0\0");
+        let failed = read(&mut stuttering(*b"abcdefgh", 5, true), &mut into);
+        assert!(rt; matches!(failed, Err(Failure::Reading)));
+    }
+
+    #[test]
+    fn writes_what_is_taken_in_pieces(rt: HostRuntime) {
+        let mut to = stuttering([0; 8], 8, false);
+        assert!(rt; write(&mut to, b"abcde").is_ok());
+        assert_eq!(rt; &to.bytes, b"abcde\0\0\0");
+        // A writer that takes no more, and one that fails.
+        for fails in [false, true] {
+            let mut to = stuttering([0; 8], 3, fails);
+            let failed = write(&mut to, b"abcde");
+            assert!(rt; matches!(failed, Err(Failure::Writing)), "at {fails}");
+            assert_eq!(rt; &to.bytes, b"abc\0\0\0\0\0", "at {fails}");
+        }
+    }
+}

@@ -55,27 +55,26 @@ lines_whole job f = ap (λ x. printed_lines x 65536) (decided_whole job f)
 lamp_whole : (f : List ℕ) → lamp_lines (take 65537 f) ≡ lamp_lines f
 lamp_whole f = ap lamp_line (whole (λ f. lamp f min_words) (Defined.Refused file_too_long) long_lit f)
 
-gained : (remaining contents contents' : Option (List ℕ)) (n : ℕ) (file : List ℕ) {bytes : List ℕ} → length file ≡ 65537 → (lines : List ℕ → List ℕ)
-    → ((f : List ℕ) → lines (take 65537 f) ≡ lines f) → bytes ≡ lines (take n file) → IfSome remaining (λ f. take n file ≡ take (length file) f)
-    → Appends contents contents' bytes → IfSome remaining (λ f. Appends contents contents' (lines f))
-gained None contents contents' n file full lines same is front h = tt
-gained (Some f) contents contents' n file full lines same is front h =
-    subst (Appends contents contents') (is ∙ ap lines (front ∙ ap (λ k. take k f) full) ∙ same f) h
+module _ (remaining : Option (List ℕ)) (n : ℕ) (file : List ℕ) (full : length file ≡ 65537) (front : IfSome remaining (λ f. take n file ≡ take (length file) f)) where
+  -- what holds of the lines of what was read, holds of those of the file
+  of_whole : (P : List ℕ → Type 0) (lines : List ℕ → List ℕ) → ((f : List ℕ) → lines (take 65537 f) ≡ lines f) → {bytes : List ℕ} → bytes ≡ lines (take n file)
+      → P bytes → IfSome remaining (λ f. P (lines f))
+  of_whole = known remaining front
+    where
+      known : (remaining : Option (List ℕ)) → IfSome remaining (λ f. take n file ≡ take (length file) f) → (P : List ℕ → Type 0) (lines : List ℕ → List ℕ)
+          → ((f : List ℕ) → lines (take 65537 f) ≡ lines f) → {bytes : List ℕ} → bytes ≡ lines (take n file) → P bytes → IfSome remaining (λ f. P (lines f))
+      known None front P lines same is h = tt
+      known (Some f) front P lines same is h = subst P (is ∙ ap lines (front ∙ ap (λ k. take k f) full) ∙ same f) h
 
-module _ {E : Type 0} (remaining contents contents' : Option (List ℕ)) (n : ℕ) (file : List ℕ) (full : length file ≡ 65537) where
-  written : (lines : List ℕ → List ℕ) → ((f : List ℕ) → lines (take 65537 f) ≡ lines f) → {bytes : List ℕ} → bytes ≡ lines (take n file)
-      → IfSome remaining (λ f. take n file ≡ take (length file) f) → (r : Result ⊤ E) → OnOk r (Appends contents contents' bytes)
-      → OnOk r (IfSome remaining (λ f. Appends contents contents' (lines f)))
-  written lines same is front (Err e) h = tt
-  written lines same is front (Ok u) h = gained remaining contents contents' n file full lines same is front h
-
-  pub job_written : (job : Job) {w out : List ℕ} {m : ℕ} → IfSome remaining (λ f. take n file ≡ take (length file) f)
-      → Prints (decided_by job (take n file) min_words) w out m
-      → (r : Result ⊤ E) → OnOk r (Appends contents contents' (take m out)) → OnOk r (IfSome remaining (λ f. Appends contents contents' (lines_by job f)))
-  job_written job {w} {out} {m} front p r h =
+  pub job_written : (P : List ℕ → Type 0) (job : Job) {w out : List ℕ} {m : ℕ} → Prints (decided_by job (take n file) min_words) w out m
+      → P (take m out) → IfSome remaining (λ f. P (lines_by job f))
+  job_written P job {w} {out} {m} p h =
       let is : take m out ≡ lines_by job (take n file) = ap (λ k. take k out) p.long ∙ ap (take _) p.out ∙ take-append_seam _ _ in
-      written (lines_by job) (lines_whole job) is front r h
+      of_whole P (lines_by job) (lines_whole job) is h
 
-  pub lamp_written : {w line : List ℕ} → IfSome remaining (λ f. take n file ≡ take (length file) f) → PrintsLamp (take n file) w line
-      → (r : Result ⊤ E) → OnOk r (Appends contents contents' line) → OnOk r (IfSome remaining (λ f. Appends contents contents' (lamp_lines f)))
-  lamp_written front p r h = written lamp_lines lamp_whole p.line front r h
+  pub lamp_written : (P : List ℕ → Type 0) {w line : List ℕ} → PrintsLamp (take n file) w line → P line → IfSome remaining (λ f. P (lamp_lines f))
+  lamp_written P p h = of_whole P lamp_lines lamp_whole p.line h
+
+pub if_ok : {E : Type 0} {A B : Type 0} (r : Result ⊤ E) → (A → B) → OnOk r A → OnOk r B
+if_ok (Ok u) h x = h x
+if_ok (Err e) h x = tt

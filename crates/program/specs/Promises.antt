@@ -1,6 +1,7 @@
 -- What the functions of src/ promise: what is printed for a file is what the definition prints (`printed_lines` of meaning/specs/Outcome.antt).
 use Rattle.std.specs.Prelude.{List, ◌++◌, ◌≡◌, ℕ, ◌-◌, length, replicate, IfSome, Option}
 use Rattle.std.specs.Io.KnownBytes.{Appends}
+use Rattle.input.specs.Gains.{GainsFrontOf}
 use Rattle.meaning.specs.Outcome.{Decided, min_words, decide, printed_lines}
 use Rattle.meaning.specs.Lamp.{lamp}
 use Rattle.lamp.specs.Promises.{lamp_line}
@@ -37,3 +38,7 @@ lamp_lines f = lamp_line (lamp f min_words)
 -- Where a reader's bytes are known, those are the file, to the last, and a writer gains what is printed for it, and nothing else.
 abbrev pub Writes : {R W : Type 0} → (R → Option (List ℕ)) → (W → Option (List ℕ)) → (List ℕ → List ℕ) → R → W → W → Type 0
 Writes remaining contents lines from to to' = IfSome (remaining from) (λ f. Appends (contents to) (contents to') (lines f))
+
+-- Whatever comes of it, the writer gains a part of that from its start.
+abbrev pub WritesFront : {R W : Type 0} → (R → Option (List ℕ)) → (W → Option (List ℕ)) → (List ℕ → List ℕ) → R → W → W → Type 0
+WritesFront remaining contents lines from to to' = IfSome (remaining from) (λ f. GainsFrontOf (contents to) (contents to') (lines f))

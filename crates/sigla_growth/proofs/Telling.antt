@@ -1,13 +1,11 @@
 -- A file of over 65,536 bytes is past no premise, and neither are its first 65,537 bytes.
-use Rattle.std.specs.Prelude.{⊤}
-use Rattle.std.proofs.Common.{ℕ, List, [], ◌∷◌, ◌≡◌, ◌≤◌, ◌<◌, length, take, arith, sym, ap, ◌∙◌, subst, take_all, length-take, ltb, true, false, ltb-true, ltb-false, inl, inr, ⊎_elim, Option, Some, None, IfSome, OnOk, Result, Ok, Err}
-use Rattle.std.specs.Io.KnownBytes.{Appends}
+use Rattle.std.proofs.Common.{ℕ, List, [], ◌∷◌, ◌≡◌, ◌≤◌, ◌<◌, length, take, arith, sym, ap, ◌∙◌, subst, take_all, length-take, ltb, true, false, ltb-true, ltb-false, inl, inr, ⊎_elim, Bool, Option, Some, None, IfSome}
 use Rattle.format.specs.Bytes.{hex_line}
 use Rattle.format.specs.File.{max_file}
 use Rattle.format.proofs.Tests.{cases}
 use Rattle.meaning.specs.Outcome.{min_words}
 use Rattle.growth.specs.Premises.{Past, premises, FirstFailing}
-use Rattle.sigla_growth.specs.Promises.{TellsOf}
+use Rattle.sigla_growth.specs.Promises.{counted, LineOf}
 
 not_past : (w : ℕ) (f : List ℕ) → 65536 < length f → Past w f → ⊥
 unfolding max_file
@@ -34,27 +32,37 @@ files_whole w f g n h =
     (λ q. new_whole w f g n
     (subst (λ f. FirstFailing (premises w f (take 65537 g)) n) (take_all 65537 f (omega (arith, ltb-false 65536 (length f) q))) h))
 
-abbrev Front : Option (List ℕ) → ℕ → List ℕ → Type 0
-Front known n file = IfSome known (λ f. take n file ≡ take (length file) f)
+abbrev pub Front : Option (List ℕ) → Bool → ℕ → List ℕ → Type 0
+Front known failed n file = IfSome known (λ f. take n file ≡ take (length file) (counted failed f))
 
-told_of : (old new contents contents' : Option (List ℕ)) (n m : ℕ) (a b line : List ℕ) (k words : ℕ) → length a ≡ 65537 → length b ≡ 65537
-    → words ≡ 16384 → Front old n a → Front new m b → FirstFailing (premises words (take n a) (take m b)) k → line ≡ hex_line (k ∷ [])
-    → Appends contents contents' line → IfSome old (λ f. IfSome new (λ g. TellsOf contents contents' f g))
-unfolding min_words
-told_of None new contents contents' n m a b line k words la lb lw fa fb first is h = tt
-told_of (Some f) None contents contents' n m a b line k words la lb lw fa fb first is h = tt
-told_of (Some f) (Some g) contents contents' n m a b line k words la lb lw fa fb first is h =
-    let of_old = fa ∙ ap (λ k. take k f) la in
-    let of_new = fb ∙ ap (λ k. take k g) lb in
-    let here : FirstFailing (premises min_words (take n a) (take m b)) k = subst (λ w. FirstFailing (premises w (take n a) (take m b)) k) lw first in
-    let cut_old : FirstFailing (premises min_words (take 65537 f) (take m b)) k = subst (λ l. FirstFailing (premises min_words l (take m b)) k) of_old here in
-    let cut : FirstFailing (premises min_words (take 65537 f) (take 65537 g)) k =
-    subst (λ l. FirstFailing (premises min_words (take 65537 f) l) k) of_new cut_old in
-    (k, files_whole min_words f g k cut, subst (Appends contents contents') is h)
+module _ (n m : ℕ) (a b line : List ℕ) (k words : ℕ) (la : length a ≡ 65537) (lb : length b ≡ 65537) (lw : words ≡ 16384)
+    (first : FirstFailing (premises words (take n a) (take m b)) k) (is : line ≡ hex_line (k ∷ [])) where
+  line_of : (P : List ℕ → Type 0) (f g : List ℕ) → take n a ≡ take (length a) f → take m b ≡ take (length b) g → P line → LineOf P f g
+  unfolding min_words
+  line_of P f g fa fb h =
+      let of_old = fa ∙ ap (λ k. take k f) la in
+      let of_new = fb ∙ ap (λ k. take k g) lb in
+      let here : FirstFailing (premises min_words (take n a) (take m b)) k = subst (λ w. FirstFailing (premises w (take n a) (take m b)) k) lw first in
+      let cut_old : FirstFailing (premises min_words (take 65537 f) (take m b)) k = subst (λ l. FirstFailing (premises min_words l (take m b)) k) of_old here in
+      let cut : FirstFailing (premises min_words (take 65537 f) (take 65537 g)) k =
+      subst (λ l. FirstFailing (premises min_words (take 65537 f) l) k) of_new cut_old in
+      (k, files_whole min_words f g k cut, subst P is h)
 
-module _ {E : Type 0} (old new contents contents' : Option (List ℕ)) (n m : ℕ) (a b line : List ℕ) (k words : ℕ) where
-  pub told : length a ≡ 65537 → length b ≡ 65537
-      → words ≡ 16384 → Front old n a → Front new m b → FirstFailing (premises words (take n a) (take m b)) k → line ≡ hex_line (k ∷ [])
-      → (r : Result ⊤ E) → OnOk r (Appends contents contents' line) → OnOk r (IfSome old (λ f. IfSome new (λ g. TellsOf contents contents' f g)))
-  told la lb lw fa fb first is (Err e) h = tt
-  told la lb lw fa fb first is (Ok u) h = told_of old new contents contents' n m a b line k words la lb lw fa fb first is h
+  -- what holds of the line that was written, holds of that of both files, each as it counts
+  pub line_told : (old new : Option (List ℕ)) (c d : Bool) → Front old c n a → Front new d m b → (P : List ℕ → Type 0) → P line
+      → IfSome old (λ f. IfSome new (λ g. LineOf P (counted c f) (counted d g)))
+  line_told None new c d fa fb P h = tt
+  line_told (Some f) None c d fa fb P h = tt
+  line_told (Some f) (Some g) c d fa fb P h = line_of P (counted c f) (counted d g) fa fb h
+
+pub as_counted : (P : List ℕ → Type 0) (old new : Option (List ℕ)) (c d : Bool) → IfSome old (λ f. IfSome new (λ g. LineOf P (counted c f) (counted d g)))
+    → IfSome old (λ f. IfSome new (λ g. (a b : Bool) × LineOf P (counted a f) (counted b g)))
+as_counted P None new c d h = tt
+as_counted P (Some f) None c d h = tt
+as_counted P (Some f) (Some g) c d h = (c, d, h)
+
+pub as_read : (P : List ℕ → Type 0) (old new : Option (List ℕ)) (c d : Bool) → c ≡ false → d ≡ false
+    → IfSome old (λ f. IfSome new (λ g. LineOf P (counted c f) (counted d g))) → IfSome old (λ f. IfSome new (λ g. LineOf P f g))
+as_read P old new c d first second h =
+    let F : Bool → Bool → Type 0 = λ c d. IfSome old (λ f. IfSome new (λ g. LineOf P (counted c f) (counted d g))) in
+    subst (F false) second (subst (λ x. F x d) first h)
