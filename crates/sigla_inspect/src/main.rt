@@ -1,88 +1,121 @@
-// Reads standard input, and prints what the plain solver answers at the entry to `unify` of the first argument's number, from 0; after a
+// Reads standard input, and prints what the plain solver answers at the entry to `unify` of the argument's number, from 0; after a
 // success its bindings too, each in a line of its own.
 #![tactic(auto)]
 
+ghost use Rattle.std.specs.Prelude.{◌≡◌, length, IfSome, OnOk};
+ghost use Rattle.std.specs.Io.KnownBytes.{Appends};
+ghost use Rattle.std.specs.Process.{exit_status};
+ghost use Rattle.input.specs.Gains.{GainsFrontOf};
+ghost use Rattle.input.specs.Numbers.{decimal};
+ghost use Rattle.inspect.specs.Inspect as Defined;
+ghost use Rattle.inspect.specs.Inspect.{lent_after};
+ghost use Rattle.inspect.specs.Promises.{ToldInspected};
+ghost use Rattle.sigla_inspect.specs.Text.{inspect_text};
+ghost use Rattle.sigla_inspect.specs.Promises.{HandsOver, words_bound, text_at, text_of_number, asked_text, NumberEnds, InspectEnds};
+
+mod bindings;
+
+use input::{Failure, Page, Request};
 use inspect::Inspected;
 use std::env::Env;
-use std::io;
-use std::io::Read;
+use std::io::{Read, Write};
 use std::process::ExitCode;
 
-fn argument(rt: &HostRuntime) -> Option<u32> {
-    let mut text = [0u8; 4096];
-    let n = rt.arg(1, &mut text).ok()?;
-    input::number(&text[..n])
-}
+const PAGE: Page = Page {
+    name: "sigla_inspect",
+    usage: "usage: sigla_inspect NUMBER < FILE",
+    help: "usage: sigla_inspect NUMBER < FILE
 
-// A token of one word. A kind is the number that stands in the words which C is given too.
-fn one_word(a: u32) -> Option<&'static str> {
-    match a {
-        1 => Some("Int"),
-        2 => Some("String"),
-        3 => Some("Bytes"),
-        8 => Some("Error"),
-        _ => None,
+Solves the unification of that number, from 0, of a file's run in the plain way:
+prints the line 0e01 and the bindings, or the line 0e00, 0e02 or 0e03, or the
+line 0f with the number of the refusal.
+",
+};
+
+// How many words of the lent slice hold bindings.
+fn words_bound(inspected: Inspected) -> usize
+    ensures { result ≡ words_bound inspected }
+{
+    match inspected {
+        Inspected::Success(n) => n,
+        _ => 0,
     }
 }
 
-// What stands before the second word of another token.
-fn two_words(a: u32) -> &'static str {
-    match a {
-        4 => "fact ",
-        5 => "record ",
-        6 => "union ",
-        7 => "?",
-        9 => ".",
-        _ => "|",
-    }
+fn write_inspected<W: Write>(to: &mut W, inspected: Inspected, lent: &[u32]) -> Result<(), Failure>
+    ensures { (x : Defined.Inspected) → ToldInspected inspected x
+        → lent.now ≡ lent_after (length lent.now) x
+        → HandsOver (W.contents to.old) (W.contents to.new) result (inspect_text x) }
+{
+    input::write(to, &inspect::line(inspected))?;
+    let end = words_bound(inspected).min(lent.len());
+    bindings::write_bindings(to, &lent[..end])
 }
 
-// The tokens of the bindings, each of one word or two, so that no `for` goes over them. Each binding starts with an 11
-// and its unknown.
-fn say_bindings(rt: &impl Print, words: &[u32]) -> io::Result<()> {
-    let mut rest = words;
-    while let [a, more @ ..] = rest {
-        if let Some(name) = one_word(*a) {
-            print!(rt; " {name}")?;
-            rest = more;
-            continue;
-        }
-        let [b, more @ ..] = more else {
-            break;
-        };
-        match *a {
-            11 if rest.len() == words.len() => print!(rt; "?{b} =")?,
-            11 => print!(rt; "\n?{b} =")?,
-            tag => print!(rt; " {}{b}", two_words(tag))?,
-        }
-        rest = more;
-    }
-    println!(rt)
-}
-
-fn say_inspected(rt: &impl Print, r: Inspected, lent: &[u32]) -> io::Result<()> {
-    rt.write_all(&inspect::line(r))?;
-    match r {
-        Inspected::Success(n) if n > 0 => say_bindings(rt, &lent[..n.min(lent.len())]),
-        _ => Ok(()),
-    }
-}
-
-// One byte more is read than a file may have, so that a longer input is refused. What failed comes back as a line to
-// tell.
-fn answer(rt: &HostRuntime, from: &mut impl Read) -> Result<(), &'static str> {
-    let number = argument(rt).ok_or("usage: sigla_inspect NUMBER < FILE")?;
+// One byte more is read than a file may have, so that a longer one is refused.
+fn answer<R: Read, W: Write>(number: u32, from: &mut R, to: &mut W) -> Result<(), Failure>
+    ensures whole { OnOk result (IfSome (R.remaining from.old)
+        (λ f. Appends (W.contents to.old) (W.contents to.new) (text_at number f))) }
+    ensures front { IfSome (R.remaining from.old)
+        (λ f. GainsFrontOf (W.contents to.old) (W.contents to.new) (text_at number f)) }
+{
     let mut file = [0; 65537];
     let mut work = [0; 16384];
     let mut lent = [0; 65536];
-    let n = input::read_all(from, &mut file).or(Err("reading standard input failed"))?;
-    let r = inspect::inspect(&file[..n], number, &mut work, &mut lent);
-    say_inspected(rt, r, &lent).or(Err("writing standard output failed"))
+    let n = input::read(from, &mut file)?;
+    let inspected = inspect::inspect(&file[..n], number, &mut work, &mut lent);
+    write_inspected(to, inspected, &lent)
+}
+
+// At the entry of the number that the word is.
+fn print<R: Read, W: Write>(
+    rt: &impl Eprint,
+    page: &Page,
+    word: &[u8],
+    from: &mut R,
+    to: &mut W,
+) -> ExitCode
+    ensures whole { let text = text_of_number (decimal word.now) in exit_status result ≡ 0
+        → IfSome (R.remaining from.old) (λ f. Appends (W.contents to.old) (W.contents to.new) (text f)) }
+    ensures front { let text = text_of_number (decimal word.now) in
+        IfSome (R.remaining from.old) (λ f. GainsFrontOf (W.contents to.old) (W.contents to.new) (text f)) }
+    ensures ends { NumberEnds (decimal word.now) (exit_status result) }
+{
+    match input::number(word) {
+        Some(number) => {
+            let outcome = answer(number, from, to);
+            input::ending(rt, outcome)
+        }
+        None => input::mistaken(rt, page),
+    }
+}
+
+// The program but for its `main`. Where the status is 0, what was written is what the definition prints for all that
+// was there to be read, and nothing else; whatever the status, it is a part of that from its start.
+fn run<R: Read, W: Write>(
+    rt: &impl Eprint,
+    request: Request,
+    page: &Page,
+    word: &[u8],
+    from: &mut R,
+    to: &mut W,
+) -> ExitCode
+    ensures whole { let text = asked_text page.now request word.now in exit_status result ≡ 0
+        → IfSome (R.remaining from.old) (λ f. Appends (W.contents to.old) (W.contents to.new) (text f)) }
+    ensures front { let text = asked_text page.now request word.now in
+        IfSome (R.remaining from.old) (λ f. GainsFrontOf (W.contents to.old) (W.contents to.new) (text f)) }
+    ensures ends { InspectEnds request word.now (exit_status result) }
+{
+    match request {
+        Request::Answer => print(rt, page, word, from, to),
+        Request::About(about) => input::tell(rt, about, page, to),
+    }
 }
 
 fn main(rt: HostRuntime) -> ExitCode {
-    match answer(&rt, &mut rt.stdin()) {
-        Ok(()) => ExitCode::SUCCESS,
-        Err(line) => input::failed(&rt, line),
-    }
+    let mut word = [0; 4096];
+    // One that is too long for the slice is no number, as none is.
+    let n = rt.arg(1, &mut word).unwrap_or(0);
+    let request = input::requested(&rt, Some(1));
+    run(&rt, request, &PAGE, &word[..n], &mut rt.stdin(), &mut rt.stdout())
 }

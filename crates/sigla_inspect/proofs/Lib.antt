@@ -1,0 +1,4 @@
+pub mod Texts
+pub mod Writing
+pub mod Passing
+pub mod Inspecting
