@@ -1,6 +1,6 @@
 -- From what was answered to what is printed: the words of the bindings stand at the start of the lent slice; and a file of over 65,536 bytes is
 -- refused for its length, so that its first 65,537 bytes print what the whole would.
-use Rattle.std.proofs.Common.{ℕ, ◌≤◌, ◌<◌, min, List, [], ◌++◌, ◌≡◌, length, take, replicate, refl, sym, ap, ◌∙◌, subst, arith, ◌+◌, length-append, length-take, take_all, ltb, true, false, ltb-true, ltb-false, lt-ltb, Option, Some, None, IfSome, Result, Ok, Err, OnOk, ⊤}
+use Rattle.std.proofs.Common.{ℕ, ◌≤◌, ◌<◌, min, List, [], ◌++◌, ◌≡◌, length, take, replicate, refl, sym, ap, ◌∙◌, subst, arith, ◌+◌, length-append, length-take, take_all, ltb, true, false, ltb-true, ltb-false, lt-ltb, Option, Some, None, IfSome, Result, Ok, Err, OnOk}
 use Rattle.std.specs.Io.KnownBytes.{Appends}
 use lib.Seq.{take-append_seam}
 use Rattle.format.specs.Frame.{wide}
@@ -52,6 +52,18 @@ module _ (r : Inspected) (x : Defined.Inspected) (told : ToldInspected r x) (a b
   unfolding inspect_text
   all_written first c o h = then_written a b (inspect_line x) (subst (Appends a b) (is ∙ line_is r x told) first) c o (bindings_text (bound x)) h
 
+-- With the slices that the program lends.
+pub inspected_so : {f : List ℕ} {n : ℕ} {w l w' l' : List ℕ} {r : Inspected} → Inspects f n w l w' l' r → length w ≡ 16384 → length l ≡ 65536
+    → length l' ≡ 65536 → ToldInspected r (decide_plain f n min_words 65536) × (l' ≡ lent_after (length l') (decide_plain f n min_words 65536))
+unfolding min_words
+inspected_so {f} {n} {w} {l} {w'} {l'} {r} i lw ll long =
+    let told = subst (λ (k : ℕ). ToldInspected r (decide_plain f n k (length l))) lw i.told in
+    let lent = subst (λ (k : ℕ). l' ≡ lent_after (length l) (decide_plain f n k (length l))) lw i.lent in
+    let there = subst (λ (k : ℕ). l' ≡ lent_after k (decide_plain f n 16384 k)) ll lent in (
+      subst (λ (k : ℕ). ToldInspected r (decide_plain f n 16384 k)) ll told,
+      subst (λ (k : ℕ). l' ≡ lent_after k (decide_plain f n 16384 65536)) (sym long) there,
+    )
+
 -- ---- The whole file
 
 long_read : (f : List ℕ) → ltb 65536 (length f) ≡ true → reading f ≡ refused file_too_long
@@ -76,6 +88,6 @@ of_whole None n m file full front P h = tt
 of_whole (Some f) n m file full front P h =
     subst P (ap (text_at n) (front ∙ ap (λ (k : ℕ). take k f) full) ∙ text_cut n f) h
 
-pub if_ok : {E : Type 0} {A B : Type 0} (r : Result ⊤ E) → (A → B) → OnOk r A → OnOk r B
+pub if_ok : {E : Type 0} {A B : Type 0} (r : Result (Unit {0}) E) → (A → B) → OnOk r A → OnOk r B
 if_ok (Ok u) h x = h x
 if_ok (Err e) h x = tt

@@ -40,7 +40,7 @@ mutual
   type_said (leaf l) ws = leaf_said l ws
   type_said (node k r) ws =
       head_said k (row_len r) (row_spelled r k ++ ws) ∙ ap (λ (l : List ℕ). (kind_text k ++ decimal (row_len r)) ++ l) (row_said k r ws)
-          ∙ sym (append_assoc (kind_text k ++ decimal (row_len r)) (parts_text k r) (words_text None ws))
+      ∙ sym (append_assoc (kind_text k ++ decimal (row_len r)) (parts_text k r) (words_text None ws))
   type_said (Var x) ws = unknown_said x ws
   type_said Error ws = error_said ws
 
@@ -48,11 +48,11 @@ mutual
   row_said k ε ws = refl
   row_said k (cell key label t r) ws =
       ap (words_text None) (append_assoc (head_spelled k key label) (spelled t ++ row_spelled r k) ws
-          ∙ ap (λ (l : List ℕ). head_spelled k key label ++ l) (append_assoc (spelled t) (row_spelled r k) ws))
-          ∙ part_said k key label (spelled t ++ (row_spelled r k ++ ws))
-          ∙ ap (λ (l : List ℕ). part_text k key label ++ l) (type_said t (row_spelled r k ++ ws)
-          ∙ ap (λ (l : List ℕ). type_text t ++ l) (row_said k r ws))
-          ∙ simp append_assoc
+      ∙ ap (λ (l : List ℕ). head_spelled k key label ++ l) (append_assoc (spelled t) (row_spelled r k) ws))
+      ∙ part_said k key label (spelled t ++ (row_spelled r k ++ ws))
+      ∙ ap (λ (l : List ℕ). part_text k key label ++ l) (type_said t (row_spelled r k ++ ws)
+      ∙ ap (λ (l : List ℕ). type_text t ++ l) (row_said k r ws))
+      ∙ simp append_assoc
 
 -- The first binding from its unknown on, and the lines that follow.
 binding_said : (x : ℕ) (ws : List ℕ) → words_text (Some 11) (x ∷ ws) ≡ (decimal x ++ codes " =") ++ words_text None ws
@@ -76,7 +76,7 @@ unfolding bindings_text binding_line
 line_said b bs more =
     ap (λ (l : List ℕ). (codes "?" ++ l) ++ codes "\n")
     (binding_said b.unknown (spelled b.to ++ bindings_spelled bs)
-        ∙ ap (λ (l : List ℕ). (decimal b.unknown ++ codes " =") ++ l) (type_said b.to (bindings_spelled bs)))
+    ∙ ap (λ (l : List ℕ). (decimal b.unknown ++ codes " =") ++ l) (type_said b.to (bindings_spelled bs)))
     ∙ joined (codes "?") (decimal b.unknown) (codes " =") (type_text b.to) (words_text None (bindings_spelled bs)) (codes "\n") (bindings_text bs) more
 
 -- The lines from the second binding's tag on, and the end of the last.

@@ -117,5 +117,12 @@ fn main(rt: HostRuntime) -> ExitCode {
     // One that is too long for the slice is no number, as none is.
     let n = rt.arg(1, &mut word).unwrap_or(0);
     let request = input::requested(&rt, Some(1));
-    run(&rt, request, &PAGE, &word[..n], &mut rt.stdin(), &mut rt.stdout())
+    run(
+        &rt,
+        request,
+        &PAGE,
+        &word[..n],
+        &mut rt.stdin(),
+        &mut rt.stdout(),
+    )
 }
