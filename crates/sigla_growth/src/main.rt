@@ -10,9 +10,10 @@ ghost use Rattle.sigla_growth.specs.Promises.{counted, known, Says, SaysFront, T
 
 use input::{Failure, Page, Request};
 use std::env::Env;
-use std::io;
-use std::io::{Read, Write};
+use std::fs::{Files, OpenOptions};
+use std::io::{ErrorKind, Read, Write};
 use std::process::ExitCode;
+use std::str;
 
 const PAGE: Page = Page {
     name: "sigla_growth",
@@ -25,32 +26,17 @@ be opened counts as empty.
 ",
 };
 
-// A file by its descriptor, which stays open until the program ends. std opens files by text alone, and a file's name
-// need not be text.
-#[derive(Drop)]
-struct Opened {
-    descriptor: i32,
-}
-
-impl Read for Opened {
-    fn read(&mut self, buf: &mut [u8]) -> io::Result<usize> {
-        let got = libc::read(self.descriptor, buf);
-        usize::try_from(got).or(Err(io::Error::from_raw_os_error(os::errno())))
-    }
-}
-
-// The file that an argument names; none where it names none, or where it can't be opened. A signal may cut the opening
-// short.
-fn open_named(rt: &impl Env, i: usize) -> Option<Opened> {
+// The file that an argument names; none where it names none, or where it can't be opened. std opens files by text, so a
+// name that is no UTF-8 can't be opened. A signal may cut the opening short.
+fn open_named<F: Env + Files>(rt: &F, i: usize) -> Option<F::File> {
     let mut name = [0; 4096];
     let n = rt.arg(i, &mut name).ok()?;
+    let name = str::from_utf8(&name[..n]).ok()?;
     for _ in 0..u64::MAX {
-        let descriptor = os::open_read(&name[..n]);
-        if descriptor >= 0 {
-            return Some(Opened { descriptor });
-        }
-        if os::errno() != libc::EINTR {
-            break;
+        match rt.open_file(OpenOptions::new().read(true), name) {
+            Ok(file) => return Some(file),
+            Err(e) if e.kind() == ErrorKind::Interrupted => {}
+            Err(_) => break,
         }
     }
     None
