@@ -1,9 +1,8 @@
 -- From what was answered to what is printed: the words of the bindings stand at the start of the lent slice; and a file of over 65,536 bytes is
 -- refused for its length, so that its first 65,537 bytes print what the whole would.
-use Rattle.std.proofs.Common.{ℕ, ◌≤◌, ◌<◌, min, List, [], ◌++◌, ◌≡◌, length, take, replicate, refl, sym, ap, ◌∙◌, subst, arith, ◌+◌, length-append, length-take, take_all, ltb, true, false, ltb-true, ltb-false, lt-ltb, Option, Some, None, IfSome, Result, Ok, Err, OnOk}
+use Rattle.std.proofs.Common.{ℕ, min, List, [], ◌≡◌, length, take, refl, sym, ap, ◌∙◌, subst, arith, ◌+◌, length-append, length-take, take_all, ltb, true, ltb-true, ltb-false, lt-ltb, Option, Some, None, IfSome, Result, Ok, Err, OnOk}
 use Rattle.std.specs.Io.KnownBytes.{Appends}
 use lib.Seq.{take-append_seam}
-use Rattle.format.specs.Frame.{wide}
 use Rattle.format.specs.File.{reading, reading_of, is_too_long, max_file, refused}
 use Rattle.format.specs.Refusal.{file_too_long}
 use Rattle.format.proofs.Tests.{cases}

@@ -2,7 +2,6 @@
 use Rattle.std.proofs.Common.{ℕ, List, ◌++◌, Option, Result, Ok, Err, OnOk}
 use Rattle.std.specs.Io.KnownBytes.{Appends}
 use Rattle.std.proofs.KnownBytes.{Appends-trans}
-use Rattle.input.specs.Gains.{GainsFrontOf}
 use Rattle.input.specs.declared.Failure.{Failure}
 use Rattle.input.proofs.Gains.{second_gained}
 use Rattle.sigla_inspect.specs.Promises.{HandsOver}

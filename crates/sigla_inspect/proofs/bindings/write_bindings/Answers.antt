@@ -1,5 +1,5 @@
 -- The first mark of an unknown, the words behind the first tag, and the last line's end.
-use Rattle.std.proofs.Common.{rules, ◌++◌, subst}
+use Rattle.std.proofs.Common.{rules, subst}
 use Rattle.std.specs.Prelude.{codes}
 use Rattle.std.proofs.KnownBytes.{Appends-trans}
 use Rattle.input.specs.Gains.{GainsFrontOf}

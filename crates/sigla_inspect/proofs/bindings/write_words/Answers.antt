@@ -1,5 +1,5 @@
 -- From word to word.
-use Rattle.std.proofs.Common.{rules, ◌++◌, rules, sym, ap, subst}
+use Rattle.std.proofs.Common.{rules, rules, subst}
 use Rattle.std.specs.Io.KnownBytes.{Appends}
 use Rattle.std.proofs.KnownBytes.{Appends-trans}
 use Rattle.input.specs.Gains.{GainsFrontOf}
