@@ -159,7 +159,8 @@ for name, ours in [("NAMES", "NAMES"), ("TYPES", "TYPES"), ("PREDICATES", "PREDI
                    ("FILE", "FILE")]:
     same(f"form.rs, {name}", of_form[name], limits[ours])
 for where, found in [("lib.rs", constants), ("sigla.py", of_python)]:
-    same(f"{where}, STACK", found["STACK"], defines["STACK"])
+    # (theirs is for their readers of answers too)
+    same(f"{where}, STACK is no less than sigla.h's", found["STACK"] >= defines["STACK"], True)
 
 # limits of the builders: C has what memory and slices add, Rust and Python have words for the same
 kinds = [name.removeprefix("SIGLA_FORM_").lower() for name, _ in limit_texts]

@@ -168,6 +168,54 @@ int main(void) {
         free(lent);
     }
 
+    /* lengths of files that are not there, up to the greatest: refused as such, and nothing is read */
+    const uint8_t *nowhere = (const uint8_t *)(uintptr_t)1;
+    const size_t beyond[] = {SIGLA_FILE_BYTES + 1, (size_t)1 << 32, SIZE_MAX / 2, SIZE_MAX / 2 + 1, SIZE_MAX - 7, SIZE_MAX};
+    const uint32_t all[1] = {SIGLA_VISITS};
+    for (size_t i = 0; i < sizeof beyond / sizeof *beyond; i++) {
+        uint8_t answer[64];
+        uint32_t lent[4];
+        HOLDS(sigla_check(nowhere, beyond[i], work, SIGLA_WORDS, answer, sizeof answer) == SIGLA_FILE_TOO_LONG && zero(answer, sizeof answer));
+        HOLDS(sigla_lamp(nowhere, beyond[i], work, SIGLA_WORDS, &lit) == SIGLA_FILE_TOO_LONG && lit == 0);
+        HOLDS(sigla_inspect(nowhere, beyond[i], 0, work, SIGLA_WORDS, lent, 4, &told) == SIGLA_FILE_TOO_LONG && told == 0 && zero(lent, sizeof lent));
+        HOLDS(sigla_widen(nowhere, beyond[i], work, SIGLA_WORDS, answer, sizeof answer) == SIGLA_FILE_TOO_LONG && zero(answer, sizeof answer));
+        HOLDS(sigla_narrow(nowhere, beyond[i], work, SIGLA_WORDS, answer, sizeof answer) == SIGLA_FILE_TOO_LONG && zero(answer, sizeof answer));
+        HOLDS(sigla_growth(nowhere, beyond[i], file, n, work, SIGLA_WORDS) == SIGLA_OLD_REFUSED);
+        HOLDS(sigla_growth(file, n, nowhere, beyond[i], work, SIGLA_WORDS) == SIGLA_NEW_REFUSED);
+        HOLDS(sigla_set_up(&group, SIGLA_VISITS, all, 1, all, 1) == 0 && group.count == 1);
+        HOLDS(sigla_check_at(&group, 0, nowhere, beyond[i], work, SIGLA_WORDS, answer, sizeof answer) == SIGLA_FILE_TOO_LONG && zero(answer, sizeof answer));
+        HOLDS(group.count == 1 && group.desks[0].used == 0 && sigla_ceiling(&group, beyond[i], &visits) == SIGLA_OUTSIDE_THE_RULES && visits == 0);
+        HOLDS(sigla_check_at(&group, beyond[i], file, n, work, SIGLA_WORDS, answer, sizeof answer) == SIGLA_OUTSIDE_THE_RULES && zero(answer, sizeof answer));
+        HOLDS(sigla_set_up(&group, 0, (const uint32_t *)(const void *)nowhere, beyond[i], (const uint32_t *)(const void *)nowhere, beyond[i]) == SIGLA_OUTSIDE_THE_RULES);
+        HOLDS(zero(&group, sizeof group) && sigla_set_up(&group, 0, all, 1, (const uint32_t *)(const void *)nowhere, beyond[i]) == SIGLA_OUTSIDE_THE_RULES);
+    }
+
+    /* a pointer to nowhere, with length 0 */
+    HOLDS(sigla_check(nowhere, 0, (uint32_t *)(uintptr_t)1, 0, (uint8_t *)(uintptr_t)1, 0) == SIGLA_WORK_TOO_SHORT);
+    HOLDS(sigla_check(nowhere, 0, work, SIGLA_WORDS, (uint8_t *)(uintptr_t)1, 0) == SIGLA_MISPLACED_KIND);
+    HOLDS(sigla_growth(file, n, nowhere, 0, work, SIGLA_WORDS) == SIGLA_NEW_REFUSED);
+    HOLDS(sigla_load(0, (uint8_t *)(uintptr_t)1, 0, &length) == SIGLA_ANSWER_TOO_LONG && length == 0);
+
+    /* two slices that are only read may be one */
+    HOLDS(sigla_growth(pen, sizeof PEN - 1, pen, sizeof PEN - 1, work, SIGLA_WORDS) == SIGLA_PREMISES_HOLD);
+    HOLDS(sigla_growth(pen, sizeof PEN - 1, pen + 9, sizeof PEN - 10, work, SIGLA_WORDS) == SIGLA_NEW_REFUSED);
+    HOLDS(sigla_set_up(&group, 3, (const uint32_t[]){1, 1, 1}, 3, (const uint32_t[]){1, 1, 1}, 3) == 0 && group.count == 3);
+
+    /* bytes at every alignment, words at every one of theirs */
+    uint32_t *more = malloc((SIGLA_WORDS + 4) * sizeof *more);
+    for (size_t shift = 0; shift < 64; shift++) {
+        uint8_t shifted[256], answer[256];
+        memcpy(shifted + shift, file, n);
+        memset(answer, 0xff, sizeof answer);
+        memset(more, 0xff, (SIGLA_WORDS + 4) * sizeof *more);
+        HOLDS(sigla_check(shifted + shift, n, more + shift % 4, SIGLA_WORDS, answer + 63 - shift, m + 3) == SIGLA_ACCEPTED);
+        HOLDS(memcmp(answer + 63 - shift, ANSWER, m) == 0 && zero(answer + 63 - shift + m, 3) && answer[63 - shift + m + 3] == 0xff);
+        HOLDS((shift == 63 || answer[62 - shift] == 0xff) && zero(more + shift % 4, SIGLA_WORDS * sizeof *more));
+        for (size_t i = 0; i < 4; i++)
+            HOLDS((i < shift % 4 ? more[i] : more[SIGLA_WORDS + i]) == UINT32_MAX);
+    }
+    free(more);
+
     /* a tally that is full, and one that no call made */
     HOLDS(sigla_tally(&tally, 2500, 7) == 0 && tally.units == 2 && tally.cents == 14 && tally.remainder == 500);
     tally.units = UINT32_MAX;

@@ -8,16 +8,23 @@
  * What do I get back?     0, and the answer's lines stand in the slice, zeros after the last LF; or the refusal's number. After a refusal
  *                         both slices are zero throughout, after an acceptance the work slice is: nothing of a file stays behind.
  * How long is it?         To the first zero byte, or the whole slice: sigla_length, or the call sigla_check_length.
- * May slices overlap?     No. The file is only read; it may not overlap a slice that is written.
- * May a pointer be NULL?  Yes, where its length is 0. The tally, the group and the places for one number must be there.
- * Alignment?              That of the pointers' own types: 4 for words, 1 for bytes.
- * How much stack?         SIGLA_STACK bytes suffice for every file tried, the deepest on a thread with just that many. A call on a
- *                         smaller stack may run past it: the guard page then ends the process. Threads of musl and of some
- *                         embedded systems are smaller by default.
+ * May slices overlap?     Two that are only read may: both files of sigla_growth, both arrays of sigla_set_up. A slice or a place that is
+ *                         written may overlap nothing else: what happens then is undefined.
+ * May a pointer be NULL?  Yes, or point anywhere, where its length is 0. With another length that is undefined, as it is for the tally, the
+ *                         group and the places for one number, which must be there.
+ * A length that is wrong? Undefined where less is there: a slice that is written is written throughout. But a file's length over
+ *                         SIGLA_FILE_BYTES, up to SIZE_MAX, is refused as such, and so are more than SIGLA_DESKS shares or caps, or not
+ *                         as many of both: nothing is read there.
+ * Alignment?              That of the pointers' own types: 1 for bytes, 4 for words and numbers, that of size_t for a length. Another one is
+ *                         undefined: no call looks at it.
+ * How much stack?         SIGLA_STACK bytes suffice for every call and every file: a bound computed from the library's object by tools/stack, not
+ *                         proved; the deepest files run on a thread with just that many. A call on a smaller stack may run past it: the
+ *                         guard page then ends the process. Threads of musl and of some embedded systems are smaller by default.
  * Threads?                Calls share nothing: any number may run at once, each with its own slices, tally and group.
  * Signals, longjmp?       A call may be interrupted; its slices then hold anything. It never calls back, blocks or raises.
  * How long does it take?  Microseconds; a query makes at most 1,048,576 visits, tens of milliseconds.
- * Which platform?         x86-64 Linux, the C calling convention of that system. No file, clock, locale or environment is read.
+ * Which platform?         x86-64 Linux, on every x86-64 processor, the C calling convention of that system. No file, clock, locale or
+ *                         environment is read.
  * Which edition?          Predicate numbers of 4 bytes. Files of the older one, with 2, go through sigla_widen first.
  * Which version?          SIGLA_VERSION_NUMBER is this header's, sigla_version() the linked library's: a library that is no older, with the
  *                         same major number (while that is 0: the same minor one), has all that this header says.
@@ -44,7 +51,7 @@
 #define SIGLA_BYTES 65536       /* the answer bytes that the program lends */
 #define SIGLA_QUERIES 64        /* the most queries of a file */
 #define SIGLA_LENT_WORDS 65536  /* the words that the program lends to the plain solver */
-#define SIGLA_STACK 1048576     /* bytes of stack that suffice for every file tried (229,400 were used) */
+#define SIGLA_STACK 262144      /* bytes of stack that suffice for every call (tools/stack) */
 
 /* The limits of a file. */
 #define SIGLA_FILE_BYTES 65536

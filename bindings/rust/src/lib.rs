@@ -75,7 +75,7 @@ pub const WORDS: usize = 16384;
 /// The answer bytes that the program lends.
 pub const BYTES: usize = 65536;
 
-/// Bytes of stack that suffice for every file tried; 229,400 were used.
+/// Bytes of stack that suffice for a call and for what this crate reads of its answer. For the call alone 262,144 do (`SIGLA_STACK` of sigla.h).
 pub const STACK: usize = 1_048_576;
 
 /// The most queries of a file.
