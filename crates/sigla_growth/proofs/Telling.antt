@@ -1,5 +1,5 @@
 -- A file of over 65,536 bytes is past no premise, and neither are its first 65,537 bytes.
-use Rattle.std.proofs.Common.{ℕ, List, [], ◌∷◌, ◌≡◌, ◌≤◌, ◌<◌, length, take, arith, sym, ap, ◌∙◌, subst, take_all, length-take, ltb, true, false, ltb-true, ltb-false, inl, inr, ⊎_elim, Bool, Option, Some, None, IfSome}
+use Rattle.std.proofs.Common.{ℕ, List, [], ◌∷◌, ◌≡◌, ◌<◌, length, take, arith, ap, ◌∙◌, subst, take_all, length-take, ltb, false, ltb-true, ltb-false, inl, inr, ⊎_elim, Bool, Option, Some, None, IfSome}
 use Rattle.format.specs.Bytes.{hex_line}
 use Rattle.format.specs.File.{max_file}
 use Rattle.format.proofs.Tests.{cases}

@@ -1,5 +1,5 @@
 -- The start of the slice is the file.
-use Rattle.std.proofs.Common.{refl, Option, Some, ℕ, List, ◌++◌, ◌≡◌, ◌≤◌, ◌-◌, length, take, replicate, sym, ap, ◌∙◌, subst, le-ltb}
+use Rattle.std.proofs.Common.{refl, Option, Some, ℕ, List, ◌++◌, ◌≡◌, ◌≤◌, ◌-◌, length, take, replicate, ap, ◌∙◌, subst, le-ltb}
 use lib.Seq.{take-append_seam}
 use Rattle.meaning.specs.Outcome.{answered, finish, accept}
 use Rattle.testload.specs.Rule.{load_file}

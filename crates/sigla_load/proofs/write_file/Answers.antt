@@ -1,9 +1,7 @@
 -- `sigla_load::write_file` meets its contract.
 use Rattle.std.proofs.Common.{subst, OnOk}
 use Rattle.std.specs.Io.KnownBytes.{Appends}
-use Rattle.std.proofs.KnownBytes.{Keeps-refl}
 use Rattle.input.specs.Gains.{GainsFrontOf}
-use Rattle.input.proofs.Gains.{none_gained}
 use Rattle.sigla_load.proofs.Making.{made}
 use Rattle.sigla_load.proofs.write_file.Goals as goal
 
