@@ -11,7 +11,8 @@ ghost use Rattle.cells.specs.Promises.{RollsBack};
 ghost use Rattle.calls.specs.Beginning.{begun_w};
 ghost use Rattle.calls.specs.Numbers.{reason_of, field_of, two, CallsUnify};
 
-use cells::{Failure, Ty, TyError};
+use cells::{Ty, TyError};
+use unify::Purse;
 
 // A list of calls starts here: no unknown, no inferred record, nothing to take back. The schema types that a reading
 // left stay.
@@ -107,17 +108,18 @@ pub fn sigla_unify(
 ) -> u32
     ensures { CallsUnify w.old gtag got etag expected left w.new out.old out.new result }
 {
+    let mut purse = Purse::full(left);
     let r = unify::unify(
         w,
         Ty::from_words(gtag, got),
         Ty::from_words(etag, expected),
-        left,
+        &mut purse,
     );
-    let (number, rest, name) = match r {
-        Ok(l) => (0, l, 0),
-        Err(Failure::Bad(e, l)) => (reason(e), l, field(e)),
-        Err(Failure::Spent) => (5, 0, 0),
+    let (number, name) = match r {
+        Some(Ok(())) => (0, 0),
+        Some(Err(e)) => (reason(e), field(e)),
+        None => (5, 0),
     };
-    put_two(out, rest, name);
+    put_two(out, purse.left(), name);
     number
 }

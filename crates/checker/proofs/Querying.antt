@@ -3,7 +3,8 @@ use mathlib.Core.List.{List}
 use mathlib.Core.Path.{◌≡◌, refl, sym, subst, ◌∙◌, ap}
 use Prim.Native.Nat.{ℕ, ◌<◌, ◌≤◌}
 use native.Mathlib.Omega.{arith}
-use lib.ListN.{length}
+use lib.ListN.{length, get_or}
+use Rattle.work.specs.Layout.{LEFT}
 use Rattle.unification.specs.Ty as Tree
 use Rattle.unification.proofs.Tests.{clash}
 use Rattle.cells.specs.declared.Ty.{Ty}
@@ -39,6 +40,8 @@ use Rattle.steps.proofs.Sequel.{gone_as, then_ends, stop_ends}
 use Rattle.steps.proofs.Results.{with_visits, then_done, stop_done}
 use Rattle.checker.proofs.Inferring.{good}
 use Rattle.checker.proofs.Bodies.{saying_all}
+use Rattle.checker.specs.Paid.{Pays, Notes}
+use Rattle.unify.specs.declared.Purse.{Purse}
 use Rattle.std.specs.Prelude.{None, Option, Some, ℕ}
 
 -- The depth is the number of nodes.
@@ -268,3 +271,12 @@ module _ {f w w₁ : List ℕ} {u : Code.Until} (ceiling : ℕ) {head : ℕ} {b 
 pub queried_as : {f w ou w₁ ou₁ w₂ ou₂ : List ℕ} {u : Code.Until} {ceiling : ℕ} {r : Option ℕ} → Queries f w ou u ceiling w₁ ou₁ r → w₂ ≡ w₁ → ou₂ ≡ ou₁
     → Queries f w ou u ceiling w₂ ou₂ r
 queried_as Q p q = rw (p, q) Q
+
+pub pays_as : (ceiling : ℕ) (p : Purse) {p' p'' : Purse} → Pays ceiling p p' → p'' ≡ p' → Pays ceiling p p''
+pays_as ceiling p h e = subst (Pays ceiling p) (sym e) h
+
+pub notes_none : {w w' : List ℕ} {p p' : Purse} → (LEFT < length w → get_or w LEFT 0 ≡ p.left) → w' ≡ w → p' ≡ p → Notes w' p' None
+notes_none h q e = rw (q, e) (record { back = λ l x. clash (cc x); noted = λ n. h })
+
+pub notes_some : {w : List ℕ} {p p' : Purse} {left : ℕ} → left ≡ p.left → p' ≡ p → Notes w p' (Some left)
+notes_some {left = left} h e = rw e (record { back = λ l x. let same : left ≡ l = cc x in sym same ∙ h; noted = λ n. clash (cc n) })

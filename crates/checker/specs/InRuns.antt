@@ -12,87 +12,87 @@ use Rattle.checker.specs.Promises.{Infers, InfersKind, Subqueries, InfersRecord,
 -- ---- `infer`
 abbrev pub InfersIn : Run → ℕ → Run → Option Ty → Type 0
 InfersIn r n r' o =
-    Infers r.file.now r.words.now r.out.now n r.left r'.words.now r'.out.now (with_left o r'.left)
+    Infers r.file.now r.words.now r.out.now n r.purse.now.left r'.words.now r'.out.now (with_left o r'.purse.now.left)
 
 abbrev pub InfersKindIn : Run → ℕ → Run → Option Ty → Type 0
 InfersKindIn r n r' o =
-    InfersKind r.file.now r.words.now r.out.now n r.left r'.words.now r'.out.now (with_left o r'.left)
+    InfersKind r.file.now r.words.now r.out.now n r.purse.now.left r'.words.now r'.out.now (with_left o r'.purse.now.left)
 
 abbrev pub SubqueriesIn : Run → ℕ → Stmts → Run → Option Ty → Type 0
 SubqueriesIn r head body r' o =
-    Subqueries r.file.now r.words.now r.out.now head body r.left r'.words.now r'.out.now (with_left o r'.left)
+    Subqueries r.file.now r.words.now r.out.now head body r.purse.now.left r'.words.now r'.out.now (with_left o r'.purse.now.left)
 
 abbrev pub InfersRecordIn : Run → Items → Run → Option Ty → Type 0
 InfersRecordIn r items r' o =
-    InfersRecord r.file.now r.words.now r.out.now items r.left r'.words.now r'.out.now (with_left o r'.left)
+    InfersRecord r.file.now r.words.now r.out.now items r.purse.now.left r'.words.now r'.out.now (with_left o r'.purse.now.left)
 
 abbrev pub InfersAllIn : Run → Items → Ty → Run → Option Ty → Type 0
 InfersAllIn r items ty r' o =
-    InfersAll r.file.now r.words.now r.out.now items ty r.left r'.words.now r'.out.now (with_left o r'.left)
+    InfersAll r.file.now r.words.now r.out.now items ty r.purse.now.left r'.words.now r'.out.now (with_left o r'.purse.now.left)
 
 abbrev pub FactsIn : Run → ℕ → ℕ → Run → Option Ty → Type 0
 FactsIn r p key r' o =
-    Facts r.file.now r.words.now r.out.now p key r.left r'.words.now r'.out.now (with_left o r'.left)
+    Facts r.file.now r.words.now r.out.now p key r.purse.now.left r'.words.now r'.out.now (with_left o r'.purse.now.left)
 
 -- ---- `check`
 abbrev pub InfersThenUnifiesIn : Run → ℕ → Ty → Run → Option (Unit {0}) → Type 0
 InfersThenUnifiesIn r n expected r' o =
-    InfersThenUnifies r.file.now r.words.now r.out.now n expected r.left r'.words.now r'.out.now (left_if o r'.left)
+    InfersThenUnifies r.file.now r.words.now r.out.now n expected r.purse.now.left r'.words.now r'.out.now (left_if o r'.purse.now.left)
 
 abbrev pub MentionsIn : Run → ℕ → ℕ → ℕ → Run → Option (Unit {0}) → Type 0
 MentionsIn r name value c r' o =
-    Mentions r.file.now r.words.now r.out.now name value c r.left r'.words.now r'.out.now (left_if o r'.left)
+    Mentions r.file.now r.words.now r.out.now name value c r.purse.now.left r'.words.now r'.out.now (left_if o r'.purse.now.left)
 
 abbrev pub ChecksFieldsIn : Run → Items → ℕ → Run → Option (Unit {0}) → Type 0
 ChecksFieldsIn r items c r' o =
-    ChecksFields r.file.now r.words.now r.out.now items c r.left r'.words.now r'.out.now (left_if o r'.left)
+    ChecksFields r.file.now r.words.now r.out.now items c r.purse.now.left r'.words.now r'.out.now (left_if o r'.purse.now.left)
 
 abbrev pub ChecksUnionIn : Run → ℕ → Items → ℕ → Run → Option (Unit {0}) → Type 0
 ChecksUnionIn r n items c r' o =
-    ChecksUnion r.file.now r.words.now r.out.now n items c r.left r'.words.now r'.out.now (left_if o r'.left)
+    ChecksUnion r.file.now r.words.now r.out.now n items c r.purse.now.left r'.words.now r'.out.now (left_if o r'.purse.now.left)
 
 abbrev pub ChecksIn : Run → ℕ → Ty → Run → Option (Unit {0}) → Type 0
 ChecksIn r n expected r' o =
-    Checks r.file.now r.words.now r.out.now n expected r.left r'.words.now r'.out.now (left_if o r'.left)
+    Checks r.file.now r.words.now r.out.now n expected r.purse.now.left r'.words.now r'.out.now (left_if o r'.purse.now.left)
 
 -- ---- `generator`
 abbrev pub GeneratesIn : Run → ℕ → Run → Option Ty → Type 0
 GeneratesIn r n r' o =
-    Generates r.file.now r.words.now r.out.now n r.left r'.words.now r'.out.now (with_left o r'.left)
+    Generates r.file.now r.words.now r.out.now n r.purse.now.left r'.words.now r'.out.now (with_left o r'.purse.now.left)
 
 abbrev pub BranchesIn : Run → Items → Run → Option Ty → Type 0
 BranchesIn r items r' o =
-    Branches r.file.now r.words.now r.out.now items r.left r'.words.now r'.out.now (with_left o r'.left)
+    Branches r.file.now r.words.now r.out.now items r.purse.now.left r'.words.now r'.out.now (with_left o r'.purse.now.left)
 
 -- ---- Statements
 abbrev pub BindsVariableIn : Run → ℕ → ℕ → ℕ → Run → Option (Unit {0}) → Type 0
 BindsVariableIn r symbol lhs rhs r' o =
-    BindsVariable r.file.now r.words.now r.out.now symbol lhs rhs r.left r'.words.now r'.out.now (left_if o r'.left)
+    BindsVariable r.file.now r.words.now r.out.now symbol lhs rhs r.purse.now.left r'.words.now r'.out.now (left_if o r'.purse.now.left)
 
 abbrev pub NotYetsIn : Run → Message → ℕ → ℕ → Run → Option (Unit {0}) → Type 0
 NotYetsIn r m lhs rhs r' o =
-    NotYets m r.file.now r.words.now r.out.now lhs rhs r.left r'.words.now r'.out.now (left_if o r'.left)
+    NotYets m r.file.now r.words.now r.out.now lhs rhs r.purse.now.left r'.words.now r'.out.now (left_if o r'.purse.now.left)
 
 abbrev pub DestructuresIn : Run → ℕ → ℕ → Run → Option (Unit {0}) → Type 0
 DestructuresIn r lhs rhs r' o =
-    Destructures r.file.now r.words.now r.out.now lhs rhs r.left r'.words.now r'.out.now (left_if o r'.left)
+    Destructures r.file.now r.words.now r.out.now lhs rhs r.purse.now.left r'.words.now r'.out.now (left_if o r'.purse.now.left)
 
 abbrev pub BindsSidesIn : Run → ℕ → ℕ → Run → Option (Unit {0}) → Type 0
 BindsSidesIn r lhs rhs r' o =
-    BindsSides r.file.now r.words.now r.out.now lhs rhs r.left r'.words.now r'.out.now (left_if o r'.left)
+    BindsSides r.file.now r.words.now r.out.now lhs rhs r.purse.now.left r'.words.now r'.out.now (left_if o r'.purse.now.left)
 
 abbrev pub DeniesIn : Run → ℕ → ℕ → Run → Option (Unit {0}) → Type 0
 DeniesIn r lhs rhs r' o =
-    Denies r.file.now r.words.now r.out.now lhs rhs r.left r'.words.now r'.out.now (left_if o r'.left)
+    Denies r.file.now r.words.now r.out.now lhs rhs r.purse.now.left r'.words.now r'.out.now (left_if o r'.purse.now.left)
 
 abbrev pub ComparesIn : Run → ℕ → ℕ → Run → Option (Unit {0}) → Type 0
 ComparesIn r lhs rhs r' o =
-    Compares r.file.now r.words.now r.out.now lhs rhs r.left r'.words.now r'.out.now (left_if o r'.left)
+    Compares r.file.now r.words.now r.out.now lhs rhs r.purse.now.left r'.words.now r'.out.now (left_if o r'.purse.now.left)
 
 abbrev pub StatesIn : Run → ℕ → ℕ → Run → Option (Unit {0}) → Type 0
 StatesIn r at low r' o =
-    States r.file.now r.words.now r.out.now at low r.left r'.words.now r'.out.now (left_if o r'.left)
+    States r.file.now r.words.now r.out.now at low r.purse.now.left r'.words.now r'.out.now (left_if o r'.purse.now.left)
 
 abbrev pub StatesAllIn : Run → Stmts → Run → Option (Unit {0}) → Type 0
 StatesAllIn r body r' o =
-    StatesAll r.file.now r.words.now r.out.now body r.left r'.words.now r'.out.now (left_if o r'.left)
+    StatesAll r.file.now r.words.now r.out.now body r.purse.now.left r'.words.now r'.out.now (left_if o r'.purse.now.left)

@@ -4,27 +4,31 @@
 
 ghost use Rattle.std.specs.Prelude.{◌≡◌, ◌<◌};
 ghost use Rattle.tree.specs.Nodes.{LowerItems};
-ghost use Rattle.state.specs.Running.{Lent};
+ghost use Rattle.state.specs.Running.{Ends, Lent};
 ghost use Rattle.checker.specs.InRuns.{InfersIn, InfersKindIn, SubqueriesIn, InfersRecordIn, InfersAllIn, FactsIn, InfersThenUnifiesIn, MentionsIn, ChecksFieldsIn, ChecksUnionIn, ChecksIn, GeneratesIn, BranchesIn, BindsVariableIn, NotYetsIn, DestructuresIn, BindsSidesIn, DeniesIn, ComparesIn, StatesIn, StatesAllIn};
 ghost use Rattle.checker.specs.Promises.{Queries};
+ghost use Rattle.checker.specs.Paid.{Pays, Notes};
 
 use cells::{Kind, Ty};
 use messages::Message;
 use state::{Run, Until};
+use unify::Purse;
 use tree::{Items, Node, Stmt, Stmts};
-use work::{Counters, word};
+use work::{Counters, put, word};
 
 // That a lower node is there is asked here, not in the type: `tree::field_at` and `item_at` do without it.
 #[cycle(checking)]
 fn infer_record(run: &mut Run, items: Items) -> Option<Ty>
     requires { 0 < items.n → 0 < items.below }
     ensures is { InfersRecordIn run.old items run.new result }
+    ensures ended { Ends result run.new }
     ensures lent { Lent run.old run.new }
 {
     let n = items.n;
     let from = cells::reserve(run.words, n);
     // It never comes to that: there is room in every run.
     if from > Counters::RECORD_FIELDS || n > Counters::RECORD_FIELDS - from {
+        put(run.words, work::LEFT, run.purse.left());
         return None;
     }
     for i in 0..n {
@@ -42,6 +46,7 @@ fn infer_record(run: &mut Run, items: Items) -> Option<Ty>
 fn infer_all(run: &mut Run, items: Items, with: Ty) -> Option<Ty>
     requires { 0 < items.n → 0 < items.below }
     ensures is { InfersAllIn run.old items with run.new result }
+    ensures ended { Ends result run.new }
     ensures lent { Lent run.old run.new }
 {
     for i in 0..items.n {
@@ -56,6 +61,7 @@ fn infer_all(run: &mut Run, items: Items, with: Ty) -> Option<Ty>
 fn subquery(run: &mut Run, head: u32, body: Stmts) -> Option<Ty>
     requires { head < body.below }
     ensures is { SubqueriesIn run.old head body run.new result }
+    ensures ended { Ends result run.new }
     ensures lent { Lent run.old run.new }
 {
     let scope = word(run.view(), work::ENV_LEN);
@@ -68,6 +74,7 @@ fn subquery(run: &mut Run, head: u32, body: Stmts) -> Option<Ty>
 #[cycle(checking)]
 fn fact(run: &mut Run, p: u32, key: u32) -> Option<Ty>
     ensures is { FactsIn run.old p key run.new result }
+    ensures ended { Ends result run.new }
     ensures lent { Lent run.old run.new }
 {
     let Some(t) = steps::key_ty(run.view(), p) else {
@@ -80,6 +87,7 @@ fn fact(run: &mut Run, p: u32, key: u32) -> Option<Ty>
 #[cycle(checking)]
 fn infer_kind(run: &mut Run, n: u32) -> Option<Ty>
     ensures is { InfersKindIn run.old n run.new result }
+    ensures ended { Ends result run.new }
     ensures lent { Lent run.old run.new }
 {
     // Not by `Run::node`: inlined, the node would stand twice in this frame, once for each depth of a query.
@@ -123,6 +131,7 @@ fn infer_kind(run: &mut Run, n: u32) -> Option<Ty>
 #[cycle(checking)]
 pub fn infer(run: &mut Run, n: u32) -> Option<Ty>
     ensures is { InfersIn run.old n run.new result }
+    ensures ended { Ends result run.new }
     ensures lent { Lent run.old run.new }
 {
     let t = infer_kind(run, n)?;
@@ -133,6 +142,7 @@ pub fn infer(run: &mut Run, n: u32) -> Option<Ty>
 #[cycle(checking)]
 fn infer_then_unify(run: &mut Run, n: u32, expected: Ty) -> Option<()>
     ensures is { InfersThenUnifiesIn run.old n expected run.new result }
+    ensures ended { Ends result run.new }
     ensures lent { Lent run.old run.new }
 {
     let at = steps::snapshot(run.view());
@@ -150,6 +160,7 @@ fn infer_then_unify(run: &mut Run, n: u32, expected: Ty) -> Option<()>
 #[cycle(checking)]
 fn check_field(run: &mut Run, c: u32, name: u32, value: u32) -> Option<()>
     ensures is { MentionsIn run.old name value c run.new result }
+    ensures ended { Ends result run.new }
     ensures lent { Lent run.old run.new }
 {
     let Some(p) = cells::find_key(run.view(), Kind::Fields, c, name) else {
@@ -168,6 +179,7 @@ fn check_field(run: &mut Run, c: u32, name: u32, value: u32) -> Option<()>
 fn check_fields(run: &mut Run, items: Items, c: u32) -> Option<()>
     requires { 0 < items.n → 0 < items.below }
     ensures is { ChecksFieldsIn run.old items c run.new result }
+    ensures ended { Ends result run.new }
     ensures lent { Lent run.old run.new }
 {
     for i in 0..items.n {
@@ -181,6 +193,7 @@ fn check_fields(run: &mut Run, items: Items, c: u32) -> Option<()>
 fn check_union(run: &mut Run, n: u32, items: Items, c: u32) -> Option<()>
     requires { LowerItems n items }
     ensures is { ChecksUnionIn run.old n items c run.new result }
+    ensures ended { Ends result run.new }
     ensures lent { Lent run.old run.new }
 {
     if items.n != 1 {
@@ -199,6 +212,7 @@ fn check_union(run: &mut Run, n: u32, items: Items, c: u32) -> Option<()>
 #[cycle(checking)]
 pub fn check(run: &mut Run, n: u32, expected: Ty) -> Option<()>
     ensures is { ChecksIn run.old n expected run.new result }
+    ensures ended { Ends result run.new }
     ensures lent { Lent run.old run.new }
 {
     let t = cells::repr(run.view(), expected);
@@ -227,6 +241,7 @@ pub fn check(run: &mut Run, n: u32, expected: Ty) -> Option<()>
 #[cycle(checking)]
 pub fn generator(run: &mut Run, n: u32) -> Option<Ty>
     ensures is { GeneratesIn run.old n run.new result }
+    ensures ended { Ends result run.new }
     ensures lent { Lent run.old run.new }
 {
     match run.node(n) {
@@ -243,6 +258,7 @@ pub fn generator(run: &mut Run, n: u32) -> Option<Ty>
 fn branches(run: &mut Run, items: Items) -> Option<Ty>
     requires { 0 < items.n → 0 < items.below }
     ensures is { BranchesIn run.old items run.new result }
+    ensures ended { Ends result run.new }
     ensures lent { Lent run.old run.new }
 {
     let mut last = Ty::Error;
@@ -257,6 +273,7 @@ fn branches(run: &mut Run, items: Items) -> Option<Ty>
 #[cycle(checking)]
 fn bind_name(run: &mut Run, symbol: u32, lhs: u32, rhs: u32) -> Option<()>
     ensures is { BindsVariableIn run.old symbol lhs rhs run.new result }
+    ensures ended { Ends result run.new }
     ensures lent { Lent run.old run.new }
 {
     let var = run.introduce(lhs, symbol);
@@ -268,6 +285,7 @@ fn bind_name(run: &mut Run, symbol: u32, lhs: u32, rhs: u32) -> Option<()>
 #[cycle(checking)]
 fn not_yet(run: &mut Run, lhs: u32, rhs: u32, m: Message) -> Option<()>
     ensures is { NotYetsIn run.old m lhs rhs run.new result }
+    ensures ended { Ends result run.new }
     ensures lent { Lent run.old run.new }
 {
     run.reject(lhs, m)?;
@@ -280,6 +298,7 @@ fn not_yet(run: &mut Run, lhs: u32, rhs: u32, m: Message) -> Option<()>
 #[cycle(checking)]
 fn destructure(run: &mut Run, lhs: u32, rhs: u32) -> Option<()>
     ensures is { DestructuresIn run.old lhs rhs run.new result }
+    ensures ended { Ends result run.new }
     ensures lent { Lent run.old run.new }
 {
     let pattern = infer(run, lhs)?;
@@ -290,6 +309,7 @@ fn destructure(run: &mut Run, lhs: u32, rhs: u32) -> Option<()>
 #[cycle(checking)]
 fn bind(run: &mut Run, lhs: u32, rhs: u32) -> Option<()>
     ensures is { BindsSidesIn run.old lhs rhs run.new result }
+    ensures ended { Ends result run.new }
     ensures lent { Lent run.old run.new }
 {
     match run.node(lhs) {
@@ -323,6 +343,7 @@ fn bind(run: &mut Run, lhs: u32, rhs: u32) -> Option<()>
 #[cycle(checking)]
 fn deny(run: &mut Run, lhs: u32, rhs: u32) -> Option<()>
     ensures is { DeniesIn run.old lhs rhs run.new result }
+    ensures ended { Ends result run.new }
     ensures lent { Lent run.old run.new }
 {
     match run.node(lhs) {
@@ -343,6 +364,7 @@ fn deny(run: &mut Run, lhs: u32, rhs: u32) -> Option<()>
 #[cycle(checking)]
 fn compare(run: &mut Run, lhs: u32, rhs: u32) -> Option<()>
     ensures is { ComparesIn run.old lhs rhs run.new result }
+    ensures ended { Ends result run.new }
     ensures lent { Lent run.old run.new }
 {
     steps::introduce_side(run, lhs);
@@ -357,6 +379,7 @@ fn compare(run: &mut Run, lhs: u32, rhs: u32) -> Option<()>
 fn stmt(run: &mut Run, at: usize, below: u32) -> Option<()>
     requires { (0 < below) × (at < 2147483648) }
     ensures is { StatesIn run.old at below run.new result }
+    ensures ended { Ends result run.new }
     ensures lent { Lent run.old run.new }
 {
     match tree::stmt_at(run.file, at, below) {
@@ -373,6 +396,7 @@ fn stmt(run: &mut Run, at: usize, below: u32) -> Option<()>
 #[cycle(checking)]
 fn stmts(run: &mut Run, body: Stmts) -> Option<()>
     ensures is { StatesAllIn run.old body run.new result }
+    ensures ended { Ends result run.new }
     ensures lent { Lent run.old run.new }
 {
     let end = body.end;
@@ -388,21 +412,31 @@ fn stmts(run: &mut Run, body: Stmts) -> Option<()>
 
 // The query of the file that was read: every type and diagnostic is then in the slice. The head is inferred last, and
 // then every entry leaves. What crate driver lends becomes a run here.
-pub fn query(f: &[u8], w: &mut [u32], until: Until, ceiling: u32, out: &mut [u8]) -> Option<u32>
-    ensures { Queries f.now w.old out.old until ceiling w.new out.new result }
+pub fn query(
+    f: &[u8],
+    w: &mut [u32],
+    until: Until,
+    ceiling: u32,
+    out: &mut [u8],
+    purse: &mut Purse,
+) -> Option<u32>
+    ensures is { Queries f.now w.old out.old until ceiling w.new out.new result }
+    ensures pays { Pays ceiling purse.old purse.new }
+    ensures noted { Notes w.new purse.new result }
 {
     steps::begin(w, until);
+    purse.refill(ceiling);
     let head = tree::query_head(f, w);
     let body = tree::query_body(w);
     let mut run = Run {
         file: f,
         words: w,
         out,
-        left: ceiling,
+        purse,
     };
     stmts(&mut run, body)?;
     steps::check_head(&mut run, head)?;
     infer(&mut run, head)?;
     state::leave(run.words, 0);
-    Some(run.left)
+    Some(run.purse.left())
 }

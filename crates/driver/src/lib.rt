@@ -13,6 +13,7 @@ ghost use Rattle.driver.specs.Promises.{RunsQueries, RunsFile, Clears, ChecksFil
 use cabinet::{Account, Group};
 use reading::{Counters, Edition, Refusal};
 use state::Until;
+use unify::Purse;
 
 // How a file's queries end, and what they were charged to.
 #[derive(Drop)]
@@ -67,10 +68,11 @@ fn answer_query(
     work: &mut [u32],
     ceiling: u32,
     out: &mut [u8],
+    purse: &mut Purse,
 ) -> Option<(Option<usize>, u32)>
     ensures { AnswersQuery file.now work.old ceiling out.old work.new out.new result }
 {
-    let left = checker::query(file, work, Until::TheEnd, ceiling, out)?;
+    let left = checker::query(file, work, Until::TheEnd, ceiling, out, purse)?;
     let visits = ceiling.saturating_sub(left);
     Some((answer::write(file, work, out, visits), visits))
 }
@@ -82,6 +84,7 @@ fn one_query(
     ceiling: u32,
     work: &mut [u32],
     out: &mut [u8],
+    purse: &mut Purse,
 ) -> Option<(usize, Option<usize>, u32)>
     ensures { TakesTurn file.now turn ceiling work.old out.old work.new out.new result }
 {
@@ -89,7 +92,7 @@ fn one_query(
     let head = heading(out, turn, next, file.len());
     let from = place(head, out.len());
     let rest = out.len() - from;
-    let (lines, visits) = answer_query(file, work, ceiling, &mut out[from..])?;
+    let (lines, visits) = answer_query(file, work, ceiling, &mut out[from..], purse)?;
     Some((next, head.and(lines).map(|n| from + n.min(rest)), visits))
 }
 
@@ -108,7 +111,13 @@ fn stop(ceiling: u32) -> Refusal
 // 11 or 16 of any of them, then 12 of them all. A file that was read is short: that is why `k` has room to grow. It is
 // owed by `run`, which has just read it, as lamp's `look` and reading's `read_file` owe it, each right after a test: a
 // type for such a file would be made for one call in each.
-fn all_queries(file: &[u8], work: &mut [u32], out: &mut [u8], account: Account) -> Settled
+fn all_queries(
+    file: &[u8],
+    work: &mut [u32],
+    out: &mut [u8],
+    account: Account,
+    purse: &mut Purse,
+) -> Settled
     requires { length file.now ≤ 65536 }
     ensures { RunsQueries file.now work.old out.old account out.new result }
 {
@@ -122,7 +131,7 @@ fn all_queries(file: &[u8], work: &mut [u32], out: &mut [u8], account: Account) 
     // and with other things in hand: one walk for all would be a closure over the slices.
     while turn.at < file.len() {
         let ceiling = charged.next_ceiling();
-        let Some((next, page, visits)) = one_query(file, turn, ceiling, work, out) else {
+        let Some((next, page, visits)) = one_query(file, turn, ceiling, work, out, purse) else {
             let last = charged.charge(ceiling);
             return Settled {
                 account: last,
@@ -143,7 +152,13 @@ fn all_queries(file: &[u8], work: &mut [u32], out: &mut [u8], account: Account) 
 }
 
 // Both slices hold anything afterwards, but for the answer.
-fn run(file: &[u8], work: &mut [u32], out: &mut [u8], account: Account) -> Settled
+fn run(
+    file: &[u8],
+    work: &mut [u32],
+    out: &mut [u8],
+    account: Account,
+    purse: &mut Purse,
+) -> Settled
     ensures { RunsFile file.now work.old out.old account work.new out.new result }
 {
     let r = reading::read_file(file, work, Edition::Wide);
@@ -152,7 +167,7 @@ fn run(file: &[u8], work: &mut [u32], out: &mut [u8], account: Account) -> Settl
             account,
             outcome: Err(e),
         },
-        Ok(()) => all_queries(file, work, out, account),
+        Ok(()) => all_queries(file, work, out, account, purse),
     }
 }
 
@@ -164,10 +179,15 @@ pub fn clear_after(r: Result<usize, Refusal>, work: &mut [u32], out: &mut [u8])
     work::clear_bytes(out, r.unwrap_or(0));
 }
 
-pub fn check_file(file: &[u8], work: &mut [u32], out: &mut [u8]) -> Result<usize, Refusal>
+pub fn check_file(
+    file: &[u8],
+    work: &mut [u32],
+    out: &mut [u8],
+    purse: &mut Purse,
+) -> Result<usize, Refusal>
     ensures { ChecksFile file.now work.old out.old work.new out.new result }
 {
-    let s = run(file, work, out, Account::Open);
+    let s = run(file, work, out, Account::Open, purse);
     let r = s.outcome;
     clear_after(r, work, out);
     r
@@ -175,11 +195,18 @@ pub fn check_file(file: &[u8], work: &mut [u32], out: &mut [u8]) -> Result<usize
 
 // The call at a desk, which is charged for the visits. The group and the desk's number are two parameters, as C hands
 // them in: `seat` makes one of them.
-pub fn check_at(g: Group, desk: usize, file: &[u8], work: &mut [u32], out: &mut [u8]) -> Desked
+pub fn check_at(
+    g: Group,
+    desk: usize,
+    file: &[u8],
+    work: &mut [u32],
+    out: &mut [u8],
+    purse: &mut Purse,
+) -> Desked
     ensures { ChecksAt g desk file.now work.old out.old work.new out.new result }
 {
     if let Some(seat) = g.seat(desk) {
-        let s = run(file, work, out, Account::At(seat));
+        let s = run(file, work, out, Account::At(seat), purse);
         let r = s.outcome;
         clear_after(r, work, out);
         return Desked {

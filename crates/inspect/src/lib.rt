@@ -7,6 +7,7 @@ ghost use Rattle.inspect.specs.Promises.{inspected_by, line_of, Answers, Inspect
 use plain::Unsolved;
 use reading::Refusal;
 use work::clear;
+use unify::Purse;
 
 // After a success with the words that the bindings take in the lent slice; `TooFewWords` is refusal 18.
 // No Result: the definition's six answers one to one; as a Result they would be two types, and each use would join them
@@ -38,7 +39,7 @@ impl From<Result<usize, Unsolved>> for Inspected {
 fn answer(file: &[u8], n: u32, work: &mut [u32], lent: &mut [u32]) -> Inspected
     ensures { Answers file.now n work.old lent.old work.new lent.new result }
 {
-    match seek::seek(file, n, work) {
+    match seek::seek(file, n, work, &mut Purse::full(0)) {
         Ok(Some((got, expected))) => Inspected::from(solver::solve(work, got, expected, lent)),
         Ok(None) => {
             work::clear(lent);

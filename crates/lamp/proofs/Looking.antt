@@ -1,7 +1,7 @@
 -- The reading, and then the queries of what was read: the lamp by what the reading comes to in so many words.
 use mathlib.Core.List.{List}
 use mathlib.Core.Path.{◌≡◌, refl, sym, ap, ◌∙◌}
-use Prim.Native.Nat.{ℕ}
+use Prim.Native.Nat.{ℕ, ◌≤◌}
 use lib.Dec.{ltb}
 use lib.ListN.{length, replicate}
 use Rattle.unification.proofs.Tests.{clash}
@@ -47,6 +47,15 @@ module _ {f w w₁ : List ℕ} {r : Result (Unit {0}) Refusal} (h : ReadsFile wi
       go : (x : Reading) → reading_in wide f (length w) ≡ x → ReadingEnds wide f w₁ r x → (signal_of o.signal ≡ lamp_read x) × (o.visits ≡ visits_read x)
       go (refused i) e g = clash (cc (q, g.1))
       go (described d) e g = A.is g.2.0 d (enough_words wide f (length w) d e) g.1 g.2.1
+
+-- A file that was read lies in words that are enough.
+pub read_long : (f w w' : List ℕ) (r : Result (Unit {0}) Refusal) → ReadsFile wide f w w' r → r ≡ Ok tt → 16384 ≤ length w'
+unfolding ReadingEnds
+read_long f w w' r h q = go (reading_in wide f (length w)) h.ends
+  where
+    go : (x : Reading) → ReadingEnds wide f w' r x → 16384 ≤ length w'
+    go (refused i) g = clash (cc (q, g.1))
+    go (described d) g = g.1
 
 pub lights : {f w w₁ w' : List ℕ} {o : Lit} → LooksAtFile f w w₁ o → w' ≡ replicate (length w₁) 0 → Lights f w w' o
 lights L c = record { lamp = L.lamp; visits = L.visits; work = c ∙ ap (λ n. replicate n 0) L.words }

@@ -3,10 +3,15 @@
 #![tactic(auto)]
 
 ghost use Rattle.std.specs.Prelude.{◌≡◌, ◌≤◌, length};
+ghost use Rattle.std.specs.Prelude.{◌+◌, ◌<◌};
+ghost use Rattle.work.specs.Layout.{LEFT};
+ghost use Rattle.meaning.specs.Lamp.{lamp_visits};
+ghost use Rattle.unify.specs.Purses.{spent};
 ghost use Rattle.lamp.specs.Promises.{signal_of, lamp_line, Glows, Asks, LooksAtFile, Lights};
 
 use reading::{Counters, Edition, Refusal};
 use state::Until;
+use unify::Purse;
 use work::{wide, word};
 
 // What the lamp shows, of one query or of a file, and the visits of the queries that were asked.
@@ -18,8 +23,9 @@ pub struct Lit {
 
 // The run of the query that is loaded: it goes to its end, the visits run out, or it stops at a diagnostic. The answer
 // slice that is lent to it is empty.
-fn one_query(file: &[u8], work: &mut [u32]) -> Lit
-    ensures { Glows file.now work.old work.new result }
+fn one_query(file: &[u8], work: &mut [u32], purse: &mut Purse) -> Lit
+    ensures is { Glows file.now work.old work.new result }
+    ensures spent { LEFT < length work.new → spent purse.new ≤ spent purse.old + result.visits }
 {
     let d = checker::query(
         file,
@@ -27,6 +33,7 @@ fn one_query(file: &[u8], work: &mut [u32]) -> Lit
         Until::FirstDiagnostic,
         Counters::VISITS,
         &mut [],
+        purse,
     );
     if let Some(left) = d {
         return Lit {
@@ -50,16 +57,17 @@ fn one_query(file: &[u8], work: &mut [u32]) -> Lit
 
 // The queries of a file that was read, one after the other, until one stops. Such a file is short: that is why the sum
 // of the visits has room; `look` owes it, as `run` of driver does.
-fn ask(file: &[u8], work: &mut [u32]) -> Lit
+fn ask(file: &[u8], work: &mut [u32], purse: &mut Purse) -> Lit
     requires { length file.now ≤ 65536 }
-    ensures { Asks file.now work.old result }
+    ensures is { Asks file.now work.old result }
+    ensures spent { LEFT < length work.old → spent purse.new ≤ spent purse.old + result.visits }
 {
     let mut at: usize = 0;
     let mut visits: usize = 0;
     // No `for`: where the next query starts is what `load` gives back.
     while at < file.len() {
         let next = loading::load(file, at, work);
-        let one = one_query(file, work);
+        let one = one_query(file, work, purse);
         visits += one.visits;
         // A diagnostic ends the walk, and so does a run that had too few visits. Of two fields one is new: `..one`
         // would say no more.
@@ -78,8 +86,9 @@ fn ask(file: &[u8], work: &mut [u32]) -> Lit
 }
 
 // The work slice holds anything afterwards.
-fn look(file: &[u8], work: &mut [u32]) -> Lit
-    ensures { LooksAtFile file.now work.old work.new result }
+fn look(file: &[u8], work: &mut [u32], purse: &mut Purse) -> Lit
+    ensures is { LooksAtFile file.now work.old work.new result }
+    ensures spent { spent purse.new ≤ spent purse.old + result.visits }
 {
     let r = reading::read_file(file, work, Edition::Wide);
     match r {
@@ -87,14 +96,15 @@ fn look(file: &[u8], work: &mut [u32]) -> Lit
             signal: Err(e),
             visits: 0,
         },
-        Ok(()) => ask(file, work),
+        Ok(()) => ask(file, work, purse),
     }
 }
 
-pub fn lamp(file: &[u8], work: &mut [u32]) -> Lit
-    ensures { Lights file.now work.old work.new result }
+pub fn lamp(file: &[u8], work: &mut [u32], purse: &mut Purse) -> Lit
+    ensures is { Lights file.now work.old work.new result }
+    ensures spent { spent purse.new ≤ spent purse.old + lamp_visits file.now (length work.old) }
 {
-    let r = look(file, work);
+    let r = look(file, work, purse);
     work::clear(work);
     r
 }

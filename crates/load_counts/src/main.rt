@@ -7,6 +7,7 @@ ghost use Rattle.std.specs.Prelude.{◌≡◌, ◌+◌, All, replicate};
 ghost use Rattle.load_counts.specs.Counts.{byte_of, one_more, OneMore};
 
 use std::io;
+use unify::Purse;
 
 // What a line has to be counted: two digits are a byte. A node's shape is the number that the file has for it.
 enum Line<'a> {
@@ -151,7 +152,7 @@ impl Counts {
         let mut file = [0; 8255];
         let n = generator::make(seed, &mut file)?;
         let file = &file[..n];
-        match driver::check_file(file, work, out) {
+        match driver::check_file(file, work, out, &mut Purse::full(0)) {
             Ok(m) => {
                 add_one(&mut self.accepted);
                 self.count_lines(file, &out[..m])

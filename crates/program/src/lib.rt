@@ -15,6 +15,7 @@ use input::{Failure, Page, Request};
 use reading::Refusal;
 use std::io::{Read, Write};
 use std::process::ExitCode;
+use unify::Purse;
 
 // What a program does with its file.
 #[derive(Drop)]
@@ -29,7 +30,7 @@ fn done(job: Job, file: &[u8], work: &mut [u32], out: &mut [u8]) -> Result<usize
 {
     // Three calls that `decided_by` names one by one: as closures they would bring their contracts to each caller.
     match job {
-        Job::Check => driver::check_file(file, work, out),
+        Job::Check => driver::check_file(file, work, out, &mut Purse::full(0)),
         Job::Widen => converters::widen(file, work, out),
         Job::Narrow => converters::narrow(file, work, out),
     }
@@ -54,7 +55,7 @@ pub fn printed(job: Job, file: &[u8], work: &mut [u32; 16384], out: &mut [u8; 65
 pub fn lamp_line(file: &[u8], work: &mut [u32; 16384]) -> [u8; 5]
     ensures { PrintsLamp file.now work.new result }
 {
-    let l = lamp::lamp(file, work);
+    let l = lamp::lamp(file, work, &mut Purse::full(0));
     let s = l.signal;
     lamp::line(s)
 }

@@ -8,15 +8,21 @@ ghost use Rattle.seek.specs.Promises.{CountsEntries, RunsOn, Places, StopsAtEntr
 use cells::Ty;
 use reading::{Counters, Edition, Refusal};
 use state::Until;
+use unify::Purse;
 use work::word;
 
 // The run of the query from `at` on: where the next one starts, and this one's entries. The answer slice that is lent
 // to it is empty.
-fn one_query(file: &[u8], at: usize, work: &mut [u32]) -> Result<(usize, u32), Refusal>
+fn one_query(
+    file: &[u8],
+    at: usize,
+    work: &mut [u32],
+    purse: &mut Purse,
+) -> Result<(usize, u32), Refusal>
     ensures { CountsEntries file.now at work.old work.new result }
 {
     let next = loading::load(file, at, work);
-    checker::query(file, work, Until::TheEnd, Counters::VISITS, &mut []).ok_or(
+    checker::query(file, work, Until::TheEnd, Counters::VISITS, &mut [], purse).ok_or(
         Refusal::TooManyVisits,
     )?;
     Ok((next, word(work, work::ENTERED)))
@@ -24,27 +30,32 @@ fn one_query(file: &[u8], at: usize, work: &mut [u32]) -> Result<(usize, u32), R
 
 // The queries from a place on, as long as they come to their ends. No `for`, here and in `place_of`: where the next
 // query starts is what the run of this one gives back.
-fn run_on(file: &[u8], from: usize, work: &mut [u32]) -> Result<(), Refusal>
+fn run_on(file: &[u8], from: usize, work: &mut [u32], purse: &mut Purse) -> Result<(), Refusal>
     ensures { RunsOn file.now from work.old work.new result }
 {
     let mut at = from;
     while at < file.len() {
-        (at, _) = one_query(file, at, work)?;
+        (at, _) = one_query(file, at, work, purse)?;
     }
     Ok(())
 }
 
 // Where the entry's query starts, and which of that query's entries it is. One count over all queries; those after the
 // entry's are run too. No `find` over queries: each is run to be counted, and a run may fail.
-fn place_of(file: &[u8], n: u32, work: &mut [u32]) -> Result<Option<(usize, u32)>, Refusal>
+fn place_of(
+    file: &[u8],
+    n: u32,
+    work: &mut [u32],
+    purse: &mut Purse,
+) -> Result<Option<(usize, u32)>, Refusal>
     ensures { Places file.now n work.old work.new result }
 {
     let mut at: usize = 0;
     let mut rest = n;
     while at < file.len() {
-        let (next, entries) = one_query(file, at, work)?;
+        let (next, entries) = one_query(file, at, work, purse)?;
         if rest < entries {
-            run_on(file, next, work)?;
+            run_on(file, next, work, purse)?;
             return Ok(Some((at, rest)));
         }
         rest -= entries;
@@ -54,30 +65,40 @@ fn place_of(file: &[u8], n: u32, work: &mut [u32]) -> Result<Option<(usize, u32)
 }
 
 // The query from `at` on is run again, up to its n-th entry.
-fn sides_at(file: &[u8], at: usize, n: u32, work: &mut [u32]) -> (Ty, Ty)
+fn sides_at(file: &[u8], at: usize, n: u32, work: &mut [u32], purse: &mut Purse) -> (Ty, Ty)
     ensures { StopsAtEntry file.now at n work.old work.new result }
 {
     loading::load(file, at, work);
-    checker::query(file, work, Until::Entry(n), Counters::VISITS, &mut []);
+    checker::query(file, work, Until::Entry(n), Counters::VISITS, &mut [], purse);
     let got = Ty::from_words(word(work, work::GOT), word(work, work::GOT + 1));
     let expected = Ty::from_words(word(work, work::EXPECTED), word(work, work::EXPECTED + 1));
     (got, expected)
 }
 
 // Of a file that was read.
-fn find(file: &[u8], n: u32, work: &mut [u32]) -> Result<Option<(Ty, Ty)>, Refusal>
+fn find(
+    file: &[u8],
+    n: u32,
+    work: &mut [u32],
+    purse: &mut Purse,
+) -> Result<Option<(Ty, Ty)>, Refusal>
     ensures { Finds file.now n work.old work.new result }
 {
-    let Some((at, rest)) = place_of(file, n, work)? else {
+    let Some((at, rest)) = place_of(file, n, work, purse)? else {
         return Ok(None);
     };
-    Ok(Some(sides_at(file, at, rest, work)))
+    Ok(Some(sides_at(file, at, rest, work, purse)))
 }
 
 // Where the entry is not found the work slice holds anything afterwards.
-pub fn seek(file: &[u8], n: u32, work: &mut [u32]) -> Result<Option<(Ty, Ty)>, Refusal>
+pub fn seek(
+    file: &[u8],
+    n: u32,
+    work: &mut [u32],
+    purse: &mut Purse,
+) -> Result<Option<(Ty, Ty)>, Refusal>
     ensures { Seeks file.now n work.old work.new result }
 {
     reading::read_file(file, work, Edition::Wide)?;
-    find(file, n, work)
+    find(file, n, work, purse)
 }

@@ -11,6 +11,7 @@ ghost use Rattle.std.specs.Prelude.{◌≡◌};
 use cabinet::Group;
 use inspect::Inspected;
 use reading::Refusal;
+use unify::Purse;
 
 // For C, 0 is no refusal. `sigla_check`, `sigla_widen` and `sigla_narrow` are alike in this: each is a name that C
 // links.
@@ -52,7 +53,7 @@ pub extern "C" fn sigla_version() -> u32
 pub extern "C" fn sigla_check(file: &[u8], work: &mut [u32], out: &mut [u8]) -> u8
     ensures { CallsCheck file.now work.old out.old work.new out.new result }
 {
-    number(driver::check_file(file, work, out))
+    number(driver::check_file(file, work, out, &mut Purse::full(0)))
 }
 
 // ---- The lamp
@@ -63,7 +64,7 @@ pub extern "C" fn sigla_check(file: &[u8], work: &mut [u32], out: &mut [u8]) -> 
 pub extern "C" fn sigla_lamp(file: &[u8], work: &mut [u32], lit: &mut u32) -> u8
     ensures { CallsLamp file.now work.old work.new lit.new result }
 {
-    let l = lamp::lamp(file, work);
+    let l = lamp::lamp(file, work, &mut Purse::full(0));
     let shown = l.signal;
     match shown {
         Ok(lit_up) => {
@@ -221,7 +222,14 @@ pub extern "C" fn sigla_check_at(
 ) -> u8
     ensures { CallsCheckAt group.old desk file.now work.old out.old group.new work.new out.new result }
 {
-    let d = driver::check_at(ledger::group(group), desk, file, work, out);
+    let d = driver::check_at(
+        ledger::group(group),
+        desk,
+        file,
+        work,
+        out,
+        &mut Purse::full(0),
+    );
     let after = d.group;
     let r = d.outcome;
     ledger::put_group(group, after);

@@ -44,6 +44,15 @@ entered_cases w f g = cases (ltb (get_or w ENTERED 0) 4294967295) (λ q. f (ltb-
 pub entered_keeps : (w : List ℕ) → Keeps ENTERED GOT w (entered_w w)
 entered_keeps w = entered_cases w (λ l e. rw e (keeps_set w ENTERED (get_or w ENTERED 0 + 1) (omega arith) (omega arith))) (λ l e. rw e keeps_refl)
 
+-- What is noted in a word that is there stands in it.
+pub noted : (w : List ℕ) (at l : ℕ) → at < length (set w at l) → get_or (set w at l) at 0 ≡ l
+noted w at l h = get_or-set_same w at l 0 (rw (length-set w at l) at h)
+
+pub sides_noted : (w : List ℕ) (got expected : Ty) (left : ℕ) → LEFT < length (sides_w w got expected left)
+    → get_or (sides_w w got expected left) LEFT 0 ≡ left
+unfolding sides_w
+sides_noted w got expected left h = noted _ LEFT left h
+
 pub sides_keeps : (w : List ℕ) (got expected : Ty) (left : ℕ) → Keeps LEFT AFTER-SIDES w (sides_w w got expected left)
 unfolding sides_w
 sides_keeps w got expected left =

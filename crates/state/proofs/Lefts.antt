@@ -1,7 +1,8 @@
 -- What was given back together with the visits left, where it is known what was given back.
 use mathlib.Core.Path.{◌≡◌, ◌∙◌, ap}
 use Prim.Native.Nat.{ℕ}
-use Rattle.state.specs.Running.{with_left, left_if, ok_left}
+use Rattle.state.specs.Running.{with_left, left_if}
+use Rattle.unify.specs.Purses.{ok_left}
 use Rattle.std.specs.Prelude.{Err, None, Ok, Option, Result, Some}
 use Rattle.cells.specs.declared.Failure.{Failure}
 use Rattle.cells.specs.declared.TyError.{TyError}

@@ -8,7 +8,7 @@ use Prim.Native.Nat.{ℕ, zero, suc, ◌+◌, ◌-◌, ◌*◌, ◌/◌, ◌%◌
 use lib.Dec.{ltb, eqb}
 use lib.ListN.{length, get_or, set}
 use borrow.Author.Tests.{ltb-true}
-use Rattle.work.specs.Layout.{RECORD-COUNT, ENV-LEN, DIAGNOSTIC-COUNT, MARK-COUNT, UNUSED-COUNT, END, ENV, MARKS, UNUSED}
+use Rattle.work.specs.Layout.{LEFT, RECORD-COUNT, ENV-LEN, DIAGNOSTIC-COUNT, MARK-COUNT, UNUSED-COUNT, END, ENV, MARKS, UNUSED}
 use Rattle.cells.specs.declared.Ty.{Ty}
 use Rattle.cells.specs.Words.{annotate_w}
 use Rattle.cells.specs.Inferred.{put_field_w}
@@ -25,20 +25,20 @@ Within w w' = Keeps RECORD-COUNT END w w'
 -- ---- `Lent` is written out, since a goal of it tells its parts
 
 -- Only words changed.
-pub lent_words : {A B C : Type 0} {a : A} {b : B} {c : C} {n l : ℕ} {w v w' : List ℕ} → w' ≡ v → Within w v
-    → (a ≡ a) × (b ≡ b) × (c ≡ c) × (length w' ≡ length w) × (n ≡ n) × (l ≤ l) × Within w w'
-lent_words q k = rw q (refl, refl, refl, k.long, refl, omega arith, k)
+pub lent_words : {A B C D : Type 0} {a : A} {b : B} {c : C} {p : D} {n l g : ℕ} {w v w' : List ℕ} → w' ≡ v → Within w v
+    → (a ≡ a) × (b ≡ b) × (c ≡ c) × (length w' ≡ length w) × (n ≡ n) × (l ≤ l) × Within w w' × (p ≡ p) × (g ≡ g)
+lent_words q k = rw q (refl, refl, refl, k.long, refl, omega arith, k, refl, refl)
 
-pub lent_refl : {A B C : Type 0} {a : A} {b : B} {c : C} {n l : ℕ} {w : List ℕ}
-    → (a ≡ a) × (b ≡ b) × (c ≡ c) × (length w ≡ length w) × (n ≡ n) × (l ≤ l) × Within w w
+pub lent_refl : {A B C D : Type 0} {a : A} {b : B} {c : C} {p : D} {n l g : ℕ} {w : List ℕ}
+    → (a ≡ a) × (b ≡ b) × (c ≡ c) × (length w ≡ length w) × (n ≡ n) × (l ≤ l) × Within w w × (p ≡ p) × (g ≡ g)
 lent_refl = lent_words refl keeps_refl
 
 -- What is lent on is what was lent.
-pub lent_then : {A B C : Type 0} {a a' a'' : A} {b b' b'' : B} {c c' c'' : C} {m m' m'' n n' n'' l l' l'' : ℕ} {w w' w'' : List ℕ}
-    → (a' ≡ a) × (b' ≡ b) × (c' ≡ c) × (m' ≡ m) × (n' ≡ n) × (l' ≤ l) × Within w w'
-    → (a'' ≡ a') × (b'' ≡ b') × (c'' ≡ c') × (m'' ≡ m') × (n'' ≡ n') × (l'' ≤ l') × Within w' w''
-    → (a'' ≡ a) × (b'' ≡ b) × (c'' ≡ c) × (m'' ≡ m) × (n'' ≡ n) × (l'' ≤ l) × Within w w''
-lent_then h k = (k.0 ∙ h.0, k.1 ∙ h.1, k.2 ∙ h.2, k.3 ∙ h.3, k.4 ∙ h.4, omega (arith, h.5, k.5), keeps_trans h.6 k.6)
+pub lent_then : {A B C D : Type 0} {a a' a'' : A} {b b' b'' : B} {c c' c'' : C} {p p' p'' : D} {m m' m'' n n' n'' l l' l'' g g' g'' : ℕ} {w w' w'' : List ℕ}
+    → (a' ≡ a) × (b' ≡ b) × (c' ≡ c) × (m' ≡ m) × (n' ≡ n) × (l' ≤ l) × Within w w' × (p' ≡ p) × (g' ≡ g)
+    → (a'' ≡ a') × (b'' ≡ b') × (c'' ≡ c') × (m'' ≡ m') × (n'' ≡ n') × (l'' ≤ l') × Within w' w'' × (p'' ≡ p') × (g'' ≡ g')
+    → (a'' ≡ a) × (b'' ≡ b) × (c'' ≡ c) × (m'' ≡ m) × (n'' ≡ n) × (l'' ≤ l) × Within w w'' × (p'' ≡ p) × (g'' ≡ g)
+lent_then h k = (k.0 ∙ h.0, k.1 ∙ h.1, k.2 ∙ h.2, k.3 ∙ h.3, k.4 ∙ h.4, omega (arith, h.5, k.5), keeps_trans h.6 k.6, k.7 ∙ h.7, k.8 ∙ h.8)
 
 -- ---- Each step that writes words
 
@@ -46,6 +46,10 @@ pub counted_within : (w : List ℕ) → Within w (counted_w w)
 unfolding counted_w
 counted_within w = keeps_pick (ltb (get_or w DIAGNOSTIC-COUNT 0) 1536)
     (λ q. keeps_set w DIAGNOSTIC-COUNT (get_or w DIAGNOSTIC-COUNT 0 + 1) (omega arith) (omega arith)) (λ q. keeps_refl)
+
+-- what was left is noted
+pub noted_within : (w : List ℕ) (left : ℕ) → Within w (set w LEFT left)
+noted_within w left = keeps_set w LEFT left (omega arith) (omega arith)
 
 -- ---- Variables
 pushed_within : (from count : ℕ) (w : List ℕ) (x : ℕ) → RECORD-COUNT ≤ from → from + 512 ≤ END → RECORD-COUNT ≤ count → count < END

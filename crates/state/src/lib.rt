@@ -7,12 +7,13 @@ ghost use Rattle.work.specs.Layout.{ENV-LEN, MARK-COUNT, MARKS, UNUSED};
 ghost use Rattle.meaning.specs.Check.{lookup_in, is_in};
 ghost use Rattle.state.specs.Words.{bumped_w, counted_w, entry_w, env_of, known_as, push_env_w, symbols_of, marks_of, mark_w, leave_entry_w, leave_w};
 ghost use Rattle.state.specs.Lines.{place_w, set_place_w, WritesSpan, WritesUnusedLine, WritesCodeLine, WritesMessageLine, WritesBothLines, until_of, until_w, stop_w, no_lines_w, no_entries_w, UntilIs, entered_w, sides_w};
-ghost use Rattle.state.specs.Running.{TellsIn, HaltsIn, RejectsIn, EntersIn, IntroducesIn, Lent};
+ghost use Rattle.state.specs.Running.{TellsIn, HaltsIn, RejectsIn, EntersIn, IntroducesIn, Ends, Lent};
 ghost use Rattle.tree.specs.Nodes.{IsNode};
 
 use cells::Ty;
 use messages::Message;
 use tree::Node;
+use unify::Purse;
 use work::{Counters, put, wide, word};
 
 // What ends a run early besides its visits: nothing, its first diagnostic, or its n-th entry to `unify` from outside,
@@ -32,7 +33,7 @@ pub struct Run<'a> {
     pub file: &'a [u8],
     pub words: &'a mut [u32],
     pub out: &'a mut [u8],
-    pub left: u32,
+    pub purse: &'a mut Purse,
 }
 
 impl Run<'_> {
@@ -46,7 +47,7 @@ impl Run<'_> {
     // Its lines behind the lines before it; where there is no room, that is noted and no line is written from then on.
     fn tell(&mut self, n: u32, m: Message)
         ensures is { TellsIn self.old n m self.new }
-        ensures left { self.new.left ≡ self.old.left }
+        ensures purse { self.new.purse ≡ self.old.purse }
         ensures lent { Lent self.old self.new }
     {
         let w: &mut [u32] = self.words;
@@ -61,11 +62,12 @@ impl Run<'_> {
 
     fn halt(&mut self) -> Option<()>
         ensures is { HaltsIn self.old self.new result }
+        ensures ended { Ends result self.new }
         ensures out { self.new.out ≡ self.old.out }
         ensures lent { Lent self.old self.new }
     {
         if let Until::FirstDiagnostic = until_in(self.view()) {
-            put(self.words, work::LEFT, self.left);
+            put(self.words, work::LEFT, self.purse.left());
             return None;
         }
         Some(())
@@ -74,6 +76,7 @@ impl Run<'_> {
     // A diagnostic at a node, and whether the run goes on.
     pub fn reject(&mut self, n: u32, m: Message) -> Option<()>
         ensures is { RejectsIn self.old n m self.new result }
+        ensures ended { Ends result self.new }
         ensures lent { Lent self.old self.new }
     {
         self.tell(n, m);
@@ -85,6 +88,7 @@ impl Run<'_> {
     // here. Its sides are two parameters, by the names of ty.rs.
     pub fn enter(&mut self, got: Ty, expected: Ty) -> Option<()>
         ensures is { EntersIn self.old got expected self.new result }
+        ensures ended { Ends result self.new }
         ensures out { self.new.out ≡ self.old.out }
         ensures lent { Lent self.old self.new }
     {
@@ -95,7 +99,7 @@ impl Run<'_> {
             Until::TheEnd | Until::FirstDiagnostic => Some(()),
             Until::Entry(stop) if n < stop => Some(()),
             Until::Entry(_) => {
-                keep_sides(self.words, got, expected, self.left);
+                keep_sides(self.words, got, expected, self.purse.left());
                 None
             }
         }
@@ -104,7 +108,7 @@ impl Run<'_> {
     // The unknown of a variable that a node names; one that is new is introduced.
     pub fn introduce(&mut self, node: u32, symbol: u32) -> u32
         ensures is { IntroducesIn self.old node symbol self.new result }
-        ensures left { self.new.left ≡ self.old.left }
+        ensures purse { self.new.purse ≡ self.old.purse }
         ensures out { self.new.out ≡ self.old.out }
         ensures lent { Lent self.old self.new }
     {

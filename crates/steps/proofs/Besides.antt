@@ -14,7 +14,8 @@ use Rattle.unification.specs.Bindings.{State, with_history}
 use Rattle.unification.specs.Unify as Unify
 use Rattle.unification.proofs.Undo.{rewind_left}
 use Rattle.unification.proofs.Kept as Kept
-use Rattle.work.specs.Layout.{RECORD-COUNT, RECORD-FIELD-COUNT, ENV-LEN, MARK-COUNT, TYS, END}
+use Rattle.std.proofs.lemmas.List.{set-get_or}
+use Rattle.work.specs.Layout.{RECORD-COUNT, RECORD-FIELD-COUNT, ENV-LEN, MARK-COUNT, LEFT, TYS, END}
 use Rattle.cells.specs.declared.Ty.{Ty}
 use Rattle.cells.specs.declared.Ty.TheVariants.{Str}
 use Rattle.cells.specs.declared.TyError.{TyError}
@@ -192,6 +193,10 @@ module _ {f w ou w₁ ou₁ : List ℕ} (n term distance : ℕ) {left : ℕ} {r 
 
 -- ---- `unify`
 
+-- Where the visits ran out the word of those that are left says so already.
+pub zero_noted : {w : List ℕ} → get_or w LEFT 0 ≡ 0 → set w LEFT 0 ≡ w
+zero_noted {w} e = ap (λ v. set w LEFT v) (sym e) ∙ set-get_or w LEFT 0
+
 -- What the run is to last until has not come, so no sides are kept.
 pub not_come : (u : Check.Until) (w : List ℕ) (T : Rows) (ds : List Diagnostic) (es : List UnifyEntry) → NotYet u ds es → AtEntry w T u es
 not_come Check.the_end w T ds es h = tt
@@ -237,6 +242,24 @@ module _ {f w ou w' : List ℕ} {T : Rows} {d : Described} {left : ℕ} {c : Che
       → StepEnds f w ou w' ou T d 0 0 (unified w' r) (Check.united (tree T got) (tree T expected) c)
   unfolding Check.united Unify.unify
   united_ends {got} {expected} U p q = unified_ends (Unify.unify c.state (tree T got) (tree T expected))
+      (U.is T c.state B.runs.holds B.visits p q c.state.left (omega (arith, B.visits)))
+      (Kept.unify_kept c.state (tree T got) (tree T expected))
+
+module _ {f w ou : List ℕ} (w' : List ℕ) {T : Rows} {d : Described} {left : ℕ} {c : Checker} {r : Result ℕ Failure} (B : Begins f w ou T d (only no_thing) left c) where
+  noted_ends : (res : Unify.Unified) → r ≡ Err Failure.Spent → Cells.UnifyEnds w w' T r res → Kept.After (Kept.Kept c.state) res
+      → StepEnds f w ou (set w' LEFT 0) ou T d 0 0 (unified (set w' LEFT 0) (Err Failure.Spent)) (Check.unified c res)
+  unfolding Check.unified Check.with_state Cells.UnifyEnds
+  noted_ends (Unify.Ok st) q e k = clash (cc (q, e.0))
+  noted_ends (Unify.Err x st) q e k = clash (cc (q, e.1))
+  noted_ends (Unify.Spent st) q e k =
+      let K : Keeps TYS END w w' = keeps_wider (omega arith) (omega arith) e.2.keeps in
+      rw (zero_noted (told_same (keeps_unlined (omega arith) K) B.lines).left)
+      (subst (λ x. StepEnds f w ou w' ou T d 0 0 (unified w' x) (Check.unified c (Unify.Spent st))) q (unified_ends B (Unify.Spent st) e k))
+
+  united_noted : {got expected : Ty} → r ≡ Err Failure.Spent → Unifies w got expected left w' r → Ok w got → Ok w expected
+      → StepEnds f w ou (set w' LEFT 0) ou T d 0 0 (unified (set w' LEFT 0) (Err Failure.Spent)) (Check.united (tree T got) (tree T expected) c)
+  unfolding Check.united Unify.unify
+  united_noted {got} {expected} z U p q = noted_ends (Unify.unify c.state (tree T got) (tree T expected)) z
       (U.is T c.state B.runs.holds B.visits p q c.state.left (omega (arith, B.visits)))
       (Kept.unify_kept c.state (tree T got) (tree T expected))
 
@@ -340,6 +363,20 @@ module _ (w : List ℕ) {got expected : Ty} {left : ℕ} where
               let A = (entered_grew B.sound B.runs B.lines (tree T got) (tree T expected)).adds in
               made B (tree T got) (tree T expected) h.2
               (united_ends (noted B (tree T got) (tree T expected) h.2) past (ok_kept A got fine.0.ok) (ok_kept A expected fine.1.ok));
+        };
+      }
+
+  pub outside_noted : {w₁ w' : List ℕ} {l : ℕ} {x : Option ℕ} {r : Result ℕ Failure} → Enters w got expected left w₁ x → x ≡ Some l
+      → Unifies w₁ got expected l w' r → r ≡ Err Failure.Spent → UnifiesOutside w got expected left (set w' LEFT 0) (Err Failure.Spent)
+  outside_noted {w' = w'} {l} {r = r} F e U z =
+      let h = counted_on F e in
+      let past : Unifies (entered_w w) got expected left w' r = rw (h.0, ← h.1) at U in
+      record {
+        is = λ f ou d. record {
+          is = λ T c B fine.
+              let A = (entered_grew B.sound B.runs B.lines (tree T got) (tree T expected)).adds in
+              made B (tree T got) (tree T expected) h.2
+              (united_noted w' (noted B (tree T got) (tree T expected) h.2) z past (ok_kept A got fine.0.ok) (ok_kept A expected fine.1.ok));
         };
       }
 

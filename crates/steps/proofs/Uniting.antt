@@ -5,6 +5,8 @@ use mathlib.Core.List.{List}
 use mathlib.Core.Path.{◌≡◌, refl, sym, ◌∙◌, ap}
 use native.Mathlib.Omega.{arith}
 use Prim.Native.Nat.{ℕ}
+use lib.ListN.{set}
+use Rattle.work.specs.Layout.{LEFT}
 use Rattle.unification.specs.Bindings as Bindings
 use Rattle.unification.specs.Bindings.{yes_left, no_left}
 use Rattle.unification.specs.Unify as Unify
@@ -25,7 +27,8 @@ use Rattle.messages.specs.declared.Message.TheVariants as Message
 use Rattle.messages.specs.Said.{report_message}
 use Rattle.state.specs.Lines.{Rejected}
 use Rattle.state.specs.Runs.{Runs}
-use Rattle.state.specs.Running.{left_if, ok_left}
+use Rattle.state.specs.Running.{left_if}
+use Rattle.unify.specs.Purses.{ok_left}
 use Rattle.state.proofs.Lefts.{ended}
 use Rattle.state.proofs.Running.{runs_slots}
 use Rattle.steps.specs.Ends.{IsUnified, unified, done, silent, Gone, StepEnds, spent}
@@ -36,7 +39,7 @@ use Rattle.steps.proofs.Growing.{grew_refl}
 use Rattle.steps.proofs.Sequel.{then_ends, stop_ends, ends_here, begins_after}
 use Rattle.steps.proofs.Results.{After, tree_after, fine_after, with_visits, on_here}
 use Rattle.steps.proofs.Ending.{reject_ends}
-use Rattle.steps.proofs.Besides.{reports, not_come}
+use Rattle.steps.proofs.Besides.{reports, not_come, zero_noted}
 use Rattle.std.specs.Prelude.{Bool, Err, None, Ok, Option, Result, Some, true, ℕ}
 use Rattle.cells.specs.declared.Failure.{Failure}
 
@@ -165,13 +168,13 @@ module _ {f w ou : List ℕ} (lhs : ℕ) {t : Ty} {left : ℕ} {r : Option (Bool
       begun B g v = begins_after (only no_thing) (only one_diagnostic) (only one_diagnostic) Nothing then_one g
           (record { orderly = v.orderly; made = v.made; reached = v.reached; holds = tt }) B
 
-  pub order_spent : r ≡ None → ComparesOrder f w ou lhs t left w ou None
+  pub order_spent : r ≡ None → ComparesOrder f w ou lhs t left (set w LEFT 0) ou None
   unfolding Check.compare_order Check.orderable Check.ordered Check.zonk Check.with_state and_then Bindings.with_left
   order_spent e = record {
     is = λ d there. record {
       is = λ T c B fine.
           let q : Bindings.spent ≡ Unify.orderable (Bindings.zonk c.state.subst (tree T t)) c.state.left = rw e at (answered B fine) in
-          rw (← q) (spent (record {
+          rw (zero_noted B.lines.left, ← q) (spent (record {
             T' = T;
             more = more_refl;
             runs = leaving_runs B 0;

@@ -3,13 +3,13 @@
 #![tactic(auto)]
 
 ghost use Rattle.std.specs.Prelude.{◌≡◌, ◌<◌, get_or};
-ghost use Rattle.state.specs.Running.{RejectsIn, Lent};
+ghost use Rattle.state.specs.Running.{RejectsIn, Ends, Lent};
 ghost use Rattle.messages.specs.Said.{report_message};
 ghost use Rattle.steps.specs.Outside.{predicate_w, key_ty_w, value_ty_w, TakesMark, Rewinds, FieldIs, Shadows, counters_w, Untypes, StartsRun};
 ghost use Rattle.steps.specs.Promises.{TellsDestructurable, AsksAll};
 ghost use Rattle.steps.specs.InRuns.{RejectsTyIn, UnifiesOutsideIn, UnifiesAtIn, ComparesTypesIn, ComparesOrderIn, ValueOfIn, FieldAtIn, KeyOfIn, SelectOfIn, DistanceIn, TermIn, FuzzesIn, IntroducesSideIn, ChecksHeadIn};
 
-use cells::{Failure, Kind, Ty, TyError};
+use cells::{Kind, Ty, TyError};
 use messages::Message;
 use state::{Run, Until};
 use tree::{Items, Node};
@@ -19,6 +19,7 @@ use work::{put, wide, word};
 
 pub fn reject_ty(run: &mut Run, n: u32, m: Message) -> Option<Ty>
     ensures is { RejectsTyIn run.old n m run.new result }
+    ensures ended { Ends result run.new }
     ensures lent { Lent run.old run.new }
 {
     run.reject(n, m)?;
@@ -28,6 +29,7 @@ pub fn reject_ty(run: &mut Run, n: u32, m: Message) -> Option<Ty>
 #[inline(never)]
 pub fn report(run: &mut Run, n: u32, err: TyError) -> Option<()>
     ensures is { RejectsIn run.old n (report_message err) run.new result }
+    ensures ended { Ends result run.new }
     ensures lent { Lent run.old run.new }
 {
     run.reject(n, Message::from(err))
@@ -63,19 +65,16 @@ pub fn rollback(w: &mut [u32], at: Mark)
 pub fn unify_outside(run: &mut Run, got: Ty, expected: Ty) -> Option<Result<(), TyError>>
     ensures is { UnifiesOutsideIn run.old got expected run.new result }
     ensures out { run.new.out ≡ run.old.out }
+    ensures ended { Ends result run.new }
     ensures lent { Lent run.old run.new }
 {
     run.enter(got, expected)?;
-    match unify::unify(run.words, got, expected, run.left) {
-        Ok(l) => {
-            run.left = l;
-            Some(Ok(()))
+    match unify::unify(run.words, got, expected, run.purse) {
+        Some(end) => Some(end),
+        None => {
+            put(run.words, work::LEFT, 0);
+            None
         }
-        Err(Failure::Bad(err, l)) => {
-            run.left = l;
-            Some(Err(err))
-        }
-        Err(Failure::Spent) => None,
     }
 }
 
@@ -83,6 +82,7 @@ pub fn unify_outside(run: &mut Run, got: Ty, expected: Ty) -> Option<Result<(), 
 #[inline(never)]
 pub fn unify_at(run: &mut Run, n: u32, got: Ty, expected: Ty) -> Option<()>
     ensures is { UnifiesAtIn run.old n got expected run.new result }
+    ensures ended { Ends result run.new }
     ensures lent { Lent run.old run.new }
 {
     match unify_outside(run, got, expected)? {
@@ -94,20 +94,24 @@ pub fn unify_at(run: &mut Run, n: u32, got: Ty, expected: Ty) -> Option<()>
 // The two sides of a comparison agree: the type must have an order.
 pub fn compare_order(run: &mut Run, lhs: u32, t: Ty) -> Option<()>
     ensures is { ComparesOrderIn run.old lhs t run.new result }
+    ensures ended { Ends result run.new }
     ensures lent { Lent run.old run.new }
 {
-    let left = run.left;
-    let (ordered, l) = unify::orderable(run.view(), t, left)?;
-    run.left = l;
-    if ordered {
-        return Some(());
+    let w: &mut [u32] = run.words;
+    match unify::orderable(w, t, run.purse) {
+        Some(true) => Some(()),
+        Some(false) => run.reject(lhs, Message::NoOrder(t)),
+        None => {
+            put(run.words, work::LEFT, 0);
+            None
+        }
     }
-    run.reject(lhs, Message::NoOrder(t))
 }
 
 // Not `unify_at`, since after a report the order is not asked for. The sides are two parameters, as in crate checker.
 pub fn compare_types(run: &mut Run, lhs: u32, rhs: u32, a: Ty, b: Ty) -> Option<()>
     ensures is { ComparesTypesIn run.old lhs rhs a b run.new result }
+    ensures ended { Ends result run.new }
     ensures lent { Lent run.old run.new }
 {
     match unify_outside(run, b, a)? {
@@ -171,6 +175,7 @@ pub fn key_shadows_value(w: &[u32], p: u32) -> bool
 #[inline(never)]
 pub fn value_of(run: &mut Run, n: u32, base: Ty) -> Option<Ty>
     ensures is { ValueOfIn run.old n base run.new result }
+    ensures ended { Ends result run.new }
     ensures lent { Lent run.old run.new }
 {
     match base {
@@ -193,6 +198,7 @@ pub fn value_of(run: &mut Run, n: u32, base: Ty) -> Option<Ty>
 // says once more.
 pub fn field_at(run: &mut Run, n: u32, name: u32, t: Ty) -> Option<Ty>
     ensures is { FieldAtIn run.old n name t run.new result }
+    ensures ended { Ends result run.new }
     ensures lent { Lent run.old run.new }
 {
     match field_of(run.view(), t, name) {
@@ -205,6 +211,7 @@ pub fn field_at(run: &mut Run, n: u32, name: u32, t: Ty) -> Option<Ty>
 #[inline(never)]
 pub fn key_of(run: &mut Run, n: u32, name: u32, base: Ty) -> Option<Ty>
     ensures is { KeyOfIn run.old n name base run.new result }
+    ensures ended { Ends result run.new }
     ensures lent { Lent run.old run.new }
 {
     match base {
@@ -222,6 +229,7 @@ pub fn key_of(run: &mut Run, n: u32, name: u32, base: Ty) -> Option<Ty>
 #[inline(never)]
 pub fn select_of(run: &mut Run, n: u32, name: u32, base: Ty) -> Option<Ty>
     ensures is { SelectOfIn run.old n name base run.new result }
+    ensures ended { Ends result run.new }
     ensures lent { Lent run.old run.new }
 {
     match base {
@@ -239,6 +247,7 @@ pub fn select_of(run: &mut Run, n: u32, name: u32, base: Ty) -> Option<Ty>
 
 fn fuzzy_distance(run: &mut Run, n: u32, distance: u32) -> Option<()>
     ensures is { DistanceIn run.old n distance run.new result }
+    ensures ended { Ends result run.new }
     ensures lent { Lent run.old run.new }
 {
     if distance == 0 || word(run.view(), work::MAX_DISTANCE) < distance {
@@ -249,6 +258,7 @@ fn fuzzy_distance(run: &mut Run, n: u32, distance: u32) -> Option<()>
 
 fn fuzzy_term(run: &mut Run, n: u32, term: u32) -> Option<()>
     ensures is { TermIn run.old n term run.new result }
+    ensures ended { Ends result run.new }
     ensures lent { Lent run.old run.new }
 {
     let characters = work::name_chars(word(run.view(), work::NAMES + wide(term)));
@@ -262,6 +272,7 @@ fn fuzzy_term(run: &mut Run, n: u32, term: u32) -> Option<()>
 #[inline(never)]
 pub fn fuzzy(run: &mut Run, n: u32, term: u32, distance: u32) -> Option<Ty>
     ensures is { FuzzesIn run.old n term distance run.new result }
+    ensures ended { Ends result run.new }
     ensures lent { Lent run.old run.new }
 {
     fuzzy_distance(run, n, distance)?;
@@ -274,7 +285,7 @@ pub fn fuzzy(run: &mut Run, n: u32, term: u32, distance: u32) -> Option<Ty>
 // A side that is a variable is introduced before either side is inferred.
 pub fn introduce_side(run: &mut Run, n: u32)
     ensures is { IntroducesSideIn run.old n run.new }
-    ensures left { run.new.left ≡ run.old.left }
+    ensures purse { run.new.purse ≡ run.old.purse }
     ensures out { run.new.out ≡ run.old.out }
     ensures lent { Lent run.old run.new }
 {
@@ -286,6 +297,7 @@ pub fn introduce_side(run: &mut Run, n: u32)
 // A wildcard has no type of its own that the head could have.
 pub fn check_head(run: &mut Run, n: u32) -> Option<()>
     ensures is { ChecksHeadIn run.old n run.new result }
+    ensures ended { Ends result run.new }
     ensures lent { Lent run.old run.new }
 {
     match run.node(n) {

@@ -1,8 +1,9 @@
 // `unify` and `orderable` over the cells, as ty.rs has them. A visit is counted at each entry.
 #![tactic(auto)]
 
-ghost use Rattle.std.specs.Prelude.{Err, SomeIff, IfSome, ◌≡◌, ◌↔◌, ◌≤◌, ◌-◌, IsTrue, length, ok_or};
+ghost use Rattle.std.specs.Prelude.{Err, None, SomeIff, IfSome, ◌≡◌, ◌↔◌, ◌≤◌, ◌-◌, IsTrue, length, ok_or};
 ghost use Rattle.unify.specs.Last.{Repeats, UnifiesAfter};
+ghost use Rattle.unify.specs.Purses.{spent, HasRoom, ok_left, UnifiesFrom, OrderableFrom};
 ghost use Rattle.unify.specs.Nearest.{IsLeastWay, IsNearest};
 ghost use Rattle.cells.specs.Words.{after_w};
 ghost use Rattle.cells.specs.Promises.{IsOrderable, Lowers, LeastFrom, NextFrom, Passed, part_at, FindsKey, Unifies, BindsVar, UnifiesHeads, UnifiesShapes, UnifiesRecord, UnifiesFields, UnifiesUnion};
@@ -16,6 +17,66 @@ use cells::{
     part_count, part_ty, place_from, place_of, repr, set_var, snapshot,
 };
 use work::wide;
+
+// The visits that may be made: those left of the ceiling of now, and how many were given out in all. What was spent is
+// the difference. No one above takes visits back or makes a purse: it is lent, from the call's edge on, to whatever
+// comes to `unify` or `orderable`.
+#[derive(Drop)]
+pub struct Purse {
+    left: u32,
+    given: u64,
+}
+
+impl Purse {
+    // For the edge of a call alone: tools/purse says who may name it.
+    pub fn full(ceiling: u32) -> Self
+        ensures { result ≡ record { left = ceiling; given = ceiling } }
+    {
+        Self {
+            left: ceiling,
+            given: u64::from(ceiling),
+        }
+    }
+
+    pub fn left(&self) -> u32
+        ensures { result ≡ self.now.left }
+    {
+        self.left
+    }
+
+    // Another ceiling. What was left is given back, so what was spent in all stays, as far as a u64 goes.
+    pub fn refill(&mut self, ceiling: u32)
+        ensures left { self.new.left ≡ ceiling }
+        ensures spent { spent self.new ≤ spent self.old }
+        ensures kept { HasRoom self.old ceiling → spent self.new ≡ spent self.old }
+    {
+        let spent = self.given.saturating_sub(u64::from(self.left));
+        self.given = spent.saturating_add(u64::from(ceiling));
+        self.left = ceiling;
+    }
+
+    // As a unification ended.
+    fn settle(&mut self, end: Result<u32, Failure>) -> Option<Result<(), TyError>>
+        ensures is { ok_left result self.new.left ≡ end }
+        ensures given { self.new.given ≡ self.old.given }
+        ensures ended { result ≡ None → self.new.left ≡ 0 }
+    {
+        match end {
+            Ok(left) => {
+                self.left = left;
+                Some(Ok(()))
+            }
+            Err(Failure::Bad(err, left)) => {
+                self.left = left;
+                Some(Err(err))
+            }
+            Err(Failure::Spent) => {
+                self.left = 0;
+                None
+            }
+        }
+    }
+}
 
 // Inside, the visits left come back where the sides unify, and where they do not, `why` holds the failure: it stands
 // once, below all entries, since in each result it would have room of its own on the stack at every depth.
@@ -56,13 +117,14 @@ fn bind_var(w: &mut [u32], x: u32, t: Ty, left: u32, why: &mut Failure) -> Optio
 }
 
 // `got` is the type of the node that the caller reports at. Two parameters, by the names of ty.rs: each is looked up by
-// itself at once.
-pub fn unify(w: &mut [u32], got: Ty, expected: Ty, left: u32) -> Result<u32, Failure>
-    ensures { Unifies w.old got expected left w.new result }
+// itself at once. Where the visits ran out nothing comes back, and all that were left are spent.
+pub fn unify(w: &mut [u32], got: Ty, expected: Ty, purse: &mut Purse) -> Option<Result<(), TyError>>
+    ensures is { UnifiesFrom w.old got expected purse.old w.new purse.new result }
+    ensures given { purse.new.given ≡ purse.old.given }
 {
     let mut why = Failure::Spent;
-    let rest = unify_sides(w, got, expected, left, &mut why);
-    rest.ok_or(why)
+    let rest = unify_sides(w, got, expected, purse.left, &mut why);
+    purse.settle(rest.ok_or(why))
 }
 
 #[cycle(unifying)]
@@ -359,7 +421,7 @@ fn differ(c: u32, d: u32, diff: UnionDiff, left: u32) -> Failure
 // same type as the last one costs what that cost. It is no one function with `occurs`: document 01 asks for that by
 // name, with its loop inside (docs/DECISIONS.md, Forms), and it is defined over the bindings, this over the type that
 // is left when they are replaced.
-pub fn orderable(w: &[u32], t: Ty, left: u32) -> Option<(bool, u32)>
+fn has_order(w: &[u32], t: Ty, left: u32) -> Option<(bool, u32)>
     ensures { IsOrderable w.now t left result }
 {
     let mut rest = left.checked_sub(1)?;
@@ -374,7 +436,7 @@ pub fn orderable(w: &[u32], t: Ty, left: u32) -> Option<(bool, u32)>
         if q == last {
             rest = rest.checked_sub(cost)?;
         } else {
-            let (yes, l) = orderable(w, q, rest)?;
+            let (yes, l) = has_order(w, q, rest)?;
             if !yes {
                 return Some((false, l));
             }
@@ -384,4 +446,20 @@ pub fn orderable(w: &[u32], t: Ty, left: u32) -> Option<(bool, u32)>
         }
     }
     Some((true, rest))
+}
+
+pub fn orderable(w: &[u32], t: Ty, purse: &mut Purse) -> Option<bool>
+    ensures is { OrderableFrom w.now t purse.old purse.new result }
+    ensures given { purse.new.given ≡ purse.old.given }
+{
+    match has_order(w, t, purse.left) {
+        Some((yes, left)) => {
+            purse.left = left;
+            Some(yes)
+        }
+        None => {
+            purse.left = 0;
+            None
+        }
+    }
 }

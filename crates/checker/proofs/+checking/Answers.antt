@@ -10,7 +10,7 @@ use Rattle.steps.proofs.Besides.{reports}
 use Rattle.steps.proofs.Unvisited.{field_falls}
 use Rattle.steps.proofs.Forms.{constant_form}
 use Rattle.state.proofs.Lefts.{took, took_none, went_on, went_none, succeeded, failed, ended}
-use Rattle.state.proofs.Lending.{lent_refl, lent_words, lent_then}
+use Rattle.state.proofs.Lending.{noted_within, lent_refl, lent_words, lent_then}
 use Rattle.state.proofs.Lending.{annotate_within, leave_within, put_field_within}
 use Rattle.cells.proofs.Holding.{fresh_keeps}
 use Rattle.cells.proofs.Making.{reserve_keeps, new_record_keeps}
@@ -107,7 +107,7 @@ bind-returns-then-destructurable-clause-is t c =
 
 pub bind_name-returns-clause-is : goal.bind_name-returns-clause-is
 bind_name-returns-clause-is t c = variable_unified (brings _ _ _ _ _ _ _ c.introduce-var.ensures.is) (notes_by c.annotate.ensures)
-    (rw (c.introduce-var.ensures.lent.0, c.introduce-var.ensures.out, c.introduce-var.ensures.left) at c.infer.ensures.is) (took c.in_ok-t.was)
+    (rw (c.introduce-var.ensures.lent.0, c.introduce-var.ensures.out, c.introduce-var.ensures.purse) at c.infer.ensures.is) (took c.in_ok-t.was)
     (rw (c.infer.ensures.lent.0, c.introduce-var.ensures.lent.0) at c.unify_at.ensures.is)
 
 pub bind_name-returns-clause-lent : goal.bind_name-returns-clause-lent
@@ -118,7 +118,7 @@ bind_name-returns-clause-lent t c =
 pub bind_name-returns-in_err-t-clause-is : goal.bind_name-returns-in_err-t-clause-is
 bind_name-returns-in_err-t-clause-is t c = rw c.from_residual.ensures
     (variable_out (brings _ _ _ _ _ _ _ c.introduce-var.ensures.is) (notes_by c.annotate.ensures)
-    (rw (c.introduce-var.ensures.lent.0, c.introduce-var.ensures.out, c.introduce-var.ensures.left) at c.infer.ensures.is) (took_none _ c.in_err-t.was))
+    (rw (c.introduce-var.ensures.lent.0, c.introduce-var.ensures.out, c.introduce-var.ensures.purse) at c.infer.ensures.is) (took_none _ c.in_err-t.was))
 
 pub bind_name-returns-in_err-t-clause-lent : goal.bind_name-returns-in_err-t-clause-lent
 bind_name-returns-in_err-t-clause-lent t c =
@@ -274,8 +274,8 @@ compare-returns-clause-is t c = compare_types_lem ((c.introduce_side.ensures.is.
       c.introduce_side.ensures.lent.0,
       c.introduce_side-2.ensures.out,
       c.introduce_side.ensures.out,
-      c.introduce_side-2.ensures.left,
-      c.introduce_side.ensures.left,
+      c.introduce_side-2.ensures.purse,
+      c.introduce_side.ensures.purse,
     ) at c.infer.ensures.is) (took c.in_ok-a.was)
     (rw (c.infer.ensures.lent.0, c.introduce_side-2.ensures.lent.0, c.introduce_side.ensures.lent.0) at c.infer-2.ensures.is) (took c.in_ok-b.was)
     (rw (c.infer-2.ensures.lent.0, c.infer.ensures.lent.0, c.introduce_side-2.ensures.lent.0, c.introduce_side.ensures.lent.0) at c.compare_types.ensures.is)
@@ -288,8 +288,8 @@ compare-returns-in_err-a-clause-is t c = rw c.from_residual.ensures
       c.introduce_side.ensures.lent.0,
       c.introduce_side-2.ensures.out,
       c.introduce_side.ensures.out,
-      c.introduce_side-2.ensures.left,
-      c.introduce_side.ensures.left,
+      c.introduce_side-2.ensures.purse,
+      c.introduce_side.ensures.purse,
     ) at c.infer.ensures.is) (took_none _ c.in_err-a.was))
 
 pub compare-returns-in_err-b-clause-is : goal.compare-returns-in_err-b-clause-is
@@ -300,8 +300,8 @@ compare-returns-in_err-b-clause-is t c = rw c.from_residual-in_err-b.ensures
       c.introduce_side.ensures.lent.0,
       c.introduce_side-2.ensures.out,
       c.introduce_side.ensures.out,
-      c.introduce_side-2.ensures.left,
-      c.introduce_side.ensures.left,
+      c.introduce_side-2.ensures.purse,
+      c.introduce_side.ensures.purse,
     ) at c.infer.ensures.is) (took c.in_ok-a.was)
     (rw (c.infer.ensures.lent.0, c.introduce_side-2.ensures.lent.0, c.introduce_side.ensures.lent.0) at c.infer-2.ensures.is) (took_none _ c.in_err-b.was))
 
@@ -497,7 +497,7 @@ pub infer_kind-returns-in-Subquery-clause-is : goal.infer_kind-returns-in-Subque
 infer_kind-returns-in-Subquery-clause-is t c = subquery_arm (rw (c.view.ensures, c.in-Subquery.is) at c.node_at.ensures) c.subquery.ensures.is
 
 pub infer_kind-returns-in-Var-clause-is : goal.infer_kind-returns-in-Var-clause-is
-infer_kind-returns-in-Var-clause-is t c = rw (c.introduce.ensures.out, c.introduce.ensures.left)
+infer_kind-returns-in-Var-clause-is t c = rw (c.introduce.ensures.out, c.introduce.ensures.purse)
     (variable_arm (brings _ _ _ _ _ _ _ c.introduce.ensures.is) (rw (c.view.ensures, c.in-Var.is) at c.node_at.ensures))
 
 pub infer_kind-returns-in-Wildcard-clause-is : goal.infer_kind-returns-in-Wildcard-clause-is
@@ -577,7 +577,8 @@ pub infer_record-returns-then-from-gt-RECORD_FIELDS-clause-is : goal.infer_recor
 infer_record-returns-then-from-gt-RECORD_FIELDS-clause-is t c = record_full c.reserve-from.ensures.0 (omega arith)
 
 pub infer_record-returns-then-from-gt-RECORD_FIELDS-clause-lent : goal.infer_record-returns-then-from-gt-RECORD_FIELDS-clause-lent
-infer_record-returns-then-from-gt-RECORD_FIELDS-clause-lent t c = lent_words c.reserve-from.ensures.1 (reserve_keeps _ _)
+infer_record-returns-then-from-gt-RECORD_FIELDS-clause-lent t c =
+    lent_then (lent_words c.reserve-from.ensures.1 (reserve_keeps _ _)) (lent_words c.put.ensures (noted_within _ _))
 
 pub infer_then_unify-returns-in-Err-clause-is : goal.infer_then_unify-returns-in-Err-clause-is
 infer_then_unify-returns-in-Err-clause-is t c = unify_bad c.infer.ensures.is (took c.in_ok-t.was) (c.unify_outside.ensures.is.is _ _)

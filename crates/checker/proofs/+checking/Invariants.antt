@@ -73,24 +73,24 @@ abbrev pub decreases-subquery : goal.decreases-subquery
 decreases-subquery l = 16 * l.body.below + 2
 
 abbrev pub invariant-branches-loop-i : goal.invariant-branches-loop-i
-invariant-branches-loop-i l = BranchesGoing l.initial.run.file.now l.initial.run.words.now l.initial.run.out.now l.items l.initial.run.left l.run.words.now
-    l.run.out.now l.last l.i l.run.left × Lent l.initial.run l.run
+invariant-branches-loop-i l = BranchesGoing l.initial.run.file.now l.initial.run.words.now l.initial.run.out.now l.items l.initial.run.purse.now.left l.run.words.now
+    l.run.out.now l.last l.i l.run.purse.now.left × Lent l.initial.run l.run
 
 abbrev pub invariant-check_fields-loop-i : goal.invariant-check_fields-loop-i
-invariant-check_fields-loop-i l = FieldsGoing l.initial.run.file.now l.initial.run.words.now l.initial.run.out.now l.items l.c l.initial.run.left
-    l.run.words.now l.run.out.now l.i l.run.left × Lent l.initial.run l.run
+invariant-check_fields-loop-i l = FieldsGoing l.initial.run.file.now l.initial.run.words.now l.initial.run.out.now l.items l.c l.initial.run.purse.now.left
+    l.run.words.now l.run.out.now l.i l.run.purse.now.left × Lent l.initial.run l.run
 
 abbrev pub invariant-infer_all-loop-i : goal.invariant-infer_all-loop-i
-invariant-infer_all-loop-i l = AllGoing l.initial.run.file.now l.initial.run.words.now l.initial.run.out.now l.items l.with l.initial.run.left l.run.words.now
-    l.run.out.now l.i l.run.left × Lent l.initial.run l.run
+invariant-infer_all-loop-i l = AllGoing l.initial.run.file.now l.initial.run.words.now l.initial.run.out.now l.items l.with l.initial.run.purse.now.left l.run.words.now
+    l.run.out.now l.i l.run.purse.now.left × Lent l.initial.run l.run
 
 abbrev pub invariant-infer_record-loop-i : goal.invariant-infer_record-loop-i
-invariant-infer_record-loop-i l = RecordGoing l.initial.run.file.now l.initial.run.words.now l.initial.run.out.now l.items l.initial.run.left l.from
-    l.run.words.now l.run.out.now l.i l.run.left × Lent l.initial.run l.run
+invariant-infer_record-loop-i l = RecordGoing l.initial.run.file.now l.initial.run.words.now l.initial.run.out.now l.items l.initial.run.purse.now.left l.from
+    l.run.words.now l.run.out.now l.i l.run.purse.now.left × Lent l.initial.run l.run
 
 abbrev pub invariant-stmts-loop-at : goal.invariant-stmts-loop-at
-invariant-stmts-loop-at l = StmtsGoing l.initial.run.file.now l.initial.run.words.now l.initial.run.out.now l.fn.body l.initial.run.left l.run.words.now
-    l.run.out.now l.at l.run.left × Lent l.initial.run l.run
+invariant-stmts-loop-at l = StmtsGoing l.initial.run.file.now l.initial.run.words.now l.initial.run.out.now l.fn.body l.initial.run.purse.now.left l.run.words.now
+    l.run.out.now l.at l.run.purse.now.left × Lent l.initial.run l.run
 
 abbrev pub decreases-stmts-loop-at : goal.decreases-stmts-loop-at
 decreases-stmts-loop-at l = l.end - l.at

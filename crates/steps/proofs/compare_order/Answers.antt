@@ -3,11 +3,12 @@ use mathlib.Core.Path.{refl}
 use Rattle.steps.proofs.Uniting.{order_yes, order_no, order_spent}
 use Rattle.steps.proofs.compare_order.Goals as goal
 
-pub returns-then-ordered-clause-is : goal.returns-then-ordered-clause-is
-returns-then-ordered-clause-is c = order_yes _ (rw (c.view.ensures, c.if-ordered.true) at c.in_ok-ordered.ensures) refl
+pub returns-in-Some-true-clause-is : goal.returns-in-Some-true-clause-is
+returns-in-Some-true-clause-is c = order_yes _ (rw (c.in-Some-true.is, c.in-Some-true.field-0-test) at c.orderable.ensures.is.0) refl
 
-pub returns-clause-is : goal.returns-clause-is
-returns-clause-is c = order_no _ (rw (c.view.ensures, c.if-ordered.false) at c.in_ok-ordered.ensures) refl c.reject.ensures.is
+pub returns-in-Some-false-clause-is : goal.returns-in-Some-false-clause-is
+returns-in-Some-false-clause-is c =
+    order_no _ (rw (c.in-Some-false.is, c.in-Some-false.field-0-test) at c.orderable.ensures.is.0) refl c.reject.ensures.is
 
-pub returns-in_err-ordered-clause-is : goal.returns-in_err-ordered-clause-is
-returns-in_err-ordered-clause-is c = rw c.from_residual.ensures (order_spent _ (rw c.view.ensures at c.in_err-ordered.ensures) refl)
+pub returns-in-None-clause-is : goal.returns-in-None-clause-is
+returns-in-None-clause-is c = rw c.put.ensures (order_spent _ (rw c.in-None.is at c.orderable.ensures.is.0) refl)

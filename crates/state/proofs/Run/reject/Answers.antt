@@ -6,7 +6,7 @@ pub returns-clause-is : goal.returns-clause-is
 returns-clause-is c = record {
   between = _;
   tells = rw c.halt.ensures.out c.tell.ensures.is;
-  halts = rw (c.count.ensures, c.tell.ensures.left) at c.halt.ensures.is;
+  halts = rw (c.count.ensures, c.tell.ensures.purse) at c.halt.ensures.is;
 }
 
 pub returns-clause-lent : goal.returns-clause-lent

@@ -3,8 +3,8 @@ use Rattle.std.proofs.Common.{rules}
 use Rattle.std.proofs.lemmas.Option.{none-some, some_pair_parts}
 use Rattle.cells.proofs.Asking.{asking_start, error_ordered, ordering_again, ordering_new, ordering_short, order_no_visit, order_fact, ordering_ends}
 use Rattle.cells.proofs.Asking.{ordering_none}
-use Rattle.unify.proofs.+orderable.Goals as goal
-use Rattle.unify.proofs.+orderable.Goals.{then-eq+in_ok-rest-2, else-eq+in_ok-yes+else-not-yes}
+use Rattle.unify.proofs.+has_order.Goals as goal
+use Rattle.unify.proofs.+has_order.Goals.{then-eq+in_ok-rest-2, else-eq+in_ok-yes+else-not-yes}
 
 pub returns-in_err-rest : goal.returns-in_err-rest
 returns-in_err-rest t c = rw c.from_residual.ensures (order_no_visit (search rules))
@@ -32,7 +32,7 @@ pub loop-j-preserved : goal.loop-j-preserved
 loop-j-preserved t c = elim c.if-eq.branch [
   | then-eq+in_ok-rest-2 w ↦ ordering_again c.loop-j.invariant c.part_ty-q.result c.loop-j-test.true c.part_ty-q.ensures (search rules) (search rules)
       (search rules) w.last-is w.cost-is
-  | else-eq+in_ok-yes+else-not-yes w ↦ ordering_new c.loop-j.invariant c.part_ty-q.result c.loop-j-test.true c.part_ty-q.ensures w.orderable.ensures
+  | else-eq+in_ok-yes+else-not-yes w ↦ ordering_new c.loop-j.invariant c.part_ty-q.result c.loop-j-test.true c.part_ty-q.ensures w.has_order.ensures
       w.in_ok-yes.l (search rules) w.rest-is w.last-is w.cost-is
 ]
 

@@ -3,10 +3,10 @@
 use Prim.Native.Nat.{◌-◌}
 use Rattle.unification.specs.Acyclic.{Acyclic}
 use Rattle.cells.proofs.Asking.{orders, Asking, Ordered}
-use Rattle.unify.proofs.+orderable.Given as goal
+use Rattle.unify.proofs.+has_order.Given as goal
 
-abbrev pub decreases-orderable : goal.decreases-orderable
-decreases-orderable l = l.left
+abbrev pub decreases-has_order : goal.decreases-has_order
+decreases-has_order l = l.left
 
 abbrev pub invariant-loop-j : goal.invariant-loop-j
 invariant-loop-j l = Asking Acyclic orders l.w l.u (l.left - 1) l.j-end l.j l.rest × Ordered l.w l.last l.cost
