@@ -33,6 +33,16 @@ use Rattle.driver.specs.Desks.{Stops}
 use Rattle.driver.proofs.Desks.{stops}
 use Rattle.driver.specs.Charges.{InTurn, over, ended, stopped, Charges, IsBeforeRuns, Pays}
 
+-- ---- Accounts
+
+pub charged_to_none : (a : Account) → charged_to a 0 ≡ a
+charged_to_none Account.Open = refl
+charged_to_none (Account.At s) = ap (λ g. Account.At (record s { group = g })) (charged_none s.group s.desk)
+
+pub charged_to_more : (a : Account) (n more : ℕ) → charged_to (charged_to a n) more ≡ charged_to a (n + more)
+charged_to_more Account.Open n more = refl
+charged_to_more (Account.At s) n more = ap (λ g. Account.At (record s { group = g })) (charged_more s.group s.desk n more)
+
 -- ---- The queries
 
 module _ (schema : Schema) (g : Group) (d : ℕ) where
@@ -40,7 +50,7 @@ module _ (schema : Schema) (g : Group) (d : ℕ) where
   record Ran (qs : List Ast) (n : ℕ) (x : RunAt) : Type 0 where
     charges : List ℕ
     whole : Bool
-    turns : InTurn schema g d qs n charges whole
+    turns : InTurn schema (desk_account g d) qs n charges whole
     account : x.account ≡ desk_account (charged g d (n + sum charges)) d
     to_the_end : (ts : List Typed) → x.end ≡ all ts → whole ≡ true
 

@@ -1,5 +1,5 @@
 -- The queries one after the other: those that had their turn stand on the page, and the others lie ahead.
-use mathlib.Core.Bool.{Bool, true}
+use mathlib.Core.Bool.{Bool, true, false}
 use mathlib.Core.List.{List, [], ◌∷◌, ◌++◌, append-nil, append_assoc}
 use mathlib.Core.Path.{◌≡◌, refl, sym, ap, subst, ◌∙◌}
 use Prim.Native.Nat.{ℕ, suc, ◌+◌, ◌≤◌, ◌<◌}
@@ -33,7 +33,13 @@ use Rattle.loading.proofs.Lines.{query_ahead, all_ahead}
 use Rattle.driver.specs.Turns.{head_line, several, Follows, Turned, Turns, Continues}
 use Rattle.driver.proofs.Continuing.{continues_none, continues_to, continues_as, continues_then, after_full, whole_there, whole_over}
 use Rattle.driver.specs.Promises.{CallEnds, RunsQueries}
-use Rattle.std.specs.Prelude.{Err, None, Ok, Option, Result, Some, ℕ, ok_or}
+use Rattle.driver.specs.Charges.{InTurn, over, ended}
+use Rattle.driver.specs.Spending.{turn_visits, SpendsOn, SpendsOnQueries}
+use Rattle.driver.proofs.Charges.{charged_to_none, charged_to_more}
+use Rattle.unify.specs.declared.Purse.{Purse}
+use Rattle.unify.specs.Purses.{spent}
+use Rattle.std.proofs.lemmas.List.Sums.{sum_by-cons}
+use Rattle.std.specs.Prelude.{Err, None, Ok, Option, Result, Some, ℕ, ok_or, sum}
 use Rattle.reading.specs.declared.Refusal.{Refusal}
 
 -- ---- The lines of queries, from number k on
@@ -99,7 +105,13 @@ resumed ts x = record { account = x.account; end = firsts ts x.end }
 
 -- ---- Between two turns
 
-record Telling (f : List ℕ) (form : Form) (a₀ : Account) (w out₀ out : List ℕ) (at k : ℕ) (page : Option ℕ) (a : Account) : Type 0 where
+-- The visits of all queries, by those of the ones that are left and how many were made before.
+record WithFirst (form : Form) (a : Account) (made : ℕ) (left : List ℕ) (all : Bool) : Type 0 where
+  visits : List ℕ
+  turns : InTurn form.schema a form.queries 0 visits all
+  sum : sum visits ≡ made + sum left
+
+record Telling (f : List ℕ) (form : Form) (a₀ : Account) (w out₀ out : List ℕ) (at k : ℕ) (page : Option ℕ) (a : Account) (p₀ p : Purse) : Type 0 where
   before : List Ast
   left : List Ast
   ts : List Typed
@@ -112,18 +124,22 @@ record Telling (f : List ℕ) (form : Form) (a₀ : Account) (w out₀ out : Lis
   rows : Rows
   stands : SchemaStands f w rows form.names form.schema
   written : Continues out₀ 0 (lines_of (text_in form) (ltb 1 (length form.queries)) 0 ts) out page
+  made : ℕ
+  charged : a ≡ charged_to a₀ made
+  turned : (visits : List ℕ) (all : Bool) → InTurn form.schema a₀ left made visits all → WithFirst form a₀ made visits all
+  within : spent p ≤ spent p₀ + made
 
-pub record Midway (f : List ℕ) (a₀ : Account) (w₀ out₀ w out : List ℕ) (at k : ℕ) (page : Option ℕ) (a : Account) : Type 0 where
+pub record Midway (f : List ℕ) (a₀ : Account) (w₀ out₀ w out : List ℕ) (at k : ℕ) (page : Option ℕ) (a : Account) (p₀ p : Purse) : Type 0 where
   pub words : length w ≡ length w₀
   pub few : k ≤ at
   pub within : at ≤ length f
   pub small : length f ≤ 65536
   is : (T : Rows) (form : Form) → reading f ≡ described form → min_words ≤ length w₀ → SchemaStands f w₀ T form.names form.schema
-      → Telling f form a₀ w out₀ out at k page a
+      → Telling f form a₀ w out₀ out at k page a p₀ p
 
-pub midway_start : (f w out : List ℕ) (a : Account) → length f ≤ 65536 → Midway f a w out w out 0 0 (Some 0) a
+pub midway_start : (f w out : List ℕ) (a : Account) (p : Purse) → length f ≤ 65536 → Midway f a w out w out 0 0 (Some 0) a p p
 unfolding lines_of max_file resumed firsts
-midway_start f w out a small = record {
+midway_start f w out a p small = record {
   words = refl;
   few = omega arith;
   within = omega arith;
@@ -141,6 +157,10 @@ midway_start f w out a small = record {
     rows = T;
     stands = S;
     written = continues_none out 0 (omega arith);
+    made = 0;
+    charged = sym (charged_to_none a);
+    turned = λ visits all t. record { visits = visits; turns = t; sum = omega arith };
+    within = omega arith;
   };
 }
 
@@ -153,7 +173,8 @@ goes_on {out₀} {a} {out} {page} {b} {out'} {r} f g = go page refl
     go (Some n) e = continues_then f e (g.1 n e (omega (arith, (continues_to f e).1, f.long)))
     go None e = subst (Continues out₀ 0 (a ++ b) out') (sym (g.2 e)) (after_full f e b out' (g.0 ∙ f.long))
 
-module _ {f : List ℕ} {a₀ : Account} {w₀ out₀ w out : List ℕ} {at k : ℕ} {page : Option ℕ} {acc : Account} (m : Midway f a₀ w₀ out₀ w out at k page acc) where
+module _ {f : List ℕ} {a₀ : Account} {w₀ out₀ w out : List ℕ} {at k : ℕ} {page : Option ℕ} {acc : Account} {p₀ p : Purse}
+    (m : Midway f a₀ w₀ out₀ w out at k page acc p₀ p) where
   -- ---- A turn
   module _ (here : at < length f) {ceiling : ℕ} (its : ceiling ≡ ceiling_in acc) {w' out' : List ℕ} {r : Option (ℕ × Option ℕ × ℕ)}
       (given : Turns f at k ceiling w out page w' out' r)
@@ -161,7 +182,7 @@ module _ {f : List ℕ} {a₀ : Account} {w₀ out₀ w out : List ℕ} {at k : 
     t : Turns f at k (ceiling_in acc) w out page w' out' r
     t = subst (λ n. Turns f at k n w out page w' out' r) its given
 
-    module _ (form : Form) (enough : min_words ≤ length w₀) (x : Telling f form a₀ w out₀ out at k page acc) where
+    module _ (form : Form) (enough : min_words ≤ length w₀) (x : Telling f form a₀ w out₀ out at k page acc p₀ p) where
       -- the query whose turn it is
       record Next : Type 0 where
         a : Ast
@@ -169,28 +190,36 @@ module _ {f : List ℕ} {a₀ : Account} {w₀ out₀ w out : List ℕ} {at k : 
         all : x.before ++ a ∷ qs ≡ form.queries
         runs : run_at form.schema form.queries a₀ ≡ resumed x.ts (run_at form.schema (a ∷ qs) acc)
         later : All (λ a. Sound (view_of form a)) qs
+        in_turn : (visits : List ℕ) (all : Bool) → InTurn form.schema a₀ (a ∷ qs) x.made visits all → WithFirst form a₀ x.made visits all
         turned : Turned f k out page w' out' r (view_of form a) qs (check (ceiling_in acc) form.schema a)
 
       next_one : Next
       unfolding view_of
-      next_one = go x.left x.are x.runs x.ahead x.sound
+      next_one = go x.left x.are x.runs x.ahead x.sound x.turned
         where
           go : (left : List Ast) → x.before ++ left ≡ form.queries → run_at form.schema form.queries a₀ ≡ resumed x.ts (run_at form.schema left acc)
-              → Ahead f at left → All (λ a. Sound (view_of form a)) left → Next
-          go [] e g A s = absurd (omega (arith, A.ended refl))
-          go (a ∷ qs) e g A s = record {
+              → Ahead f at left → All (λ a. Sound (view_of form a)) left
+              → ((visits : List ℕ) (all : Bool) → InTurn form.schema a₀ left x.made visits all → WithFirst form a₀ x.made visits all) → Next
+          go [] e g A s i = absurd (omega (arith, A.ended refl))
+          go (a ∷ qs) e g A s i = record {
             a = a;
             qs = qs;
             all = e;
             runs = g;
             later = s.1;
+            in_turn = i;
             turned = t.is x.rows (view_of form a) qs s.0 (omega (arith, m.words)) x.stands A;
           }
 
       -- it ran to its end, and its lines follow
-      one_told : (next : ℕ) (p : Option ℕ) (v : ℕ) → r ≡ Some (next, p, v) → Telling f form a₀ w' out₀ out' next (k + 1) p (charged_to acc v)
+      -- Its run, by what the call has charged before it.
+      from_the_start : {c : Checked} → check (ceiling_in acc) form.schema next_one.a ≡ c → check (ceiling_in (charged_to a₀ x.made)) form.schema next_one.a ≡ c
+      from_the_start {c} e = subst (λ b. check (ceiling_in b) form.schema next_one.a ≡ c) x.charged e
+
+      one_told : {p' : Purse} → spent p' ≤ spent p + turn_visits ceiling r → (next : ℕ) (page' : Option ℕ) (v : ℕ) → r ≡ Some (next, page', v)
+          → Telling f form a₀ w' out₀ out' next (k + 1) page' (charged_to acc v) p₀ p'
       unfolding Turned view_of run_at resumed
-      one_told next p v e = ends (check (ceiling_in acc) form.schema next_one.a) refl next_one.turned
+      one_told {p'} pays next page' v e = ends (check (ceiling_in acc) form.schema next_one.a) refl next_one.turned
         where
           y : Next
           y = next_one
@@ -206,12 +235,12 @@ module _ {f : List ℕ} {a₀ : Account} {w₀ out₀ w out : List ℕ} {at k : 
               ap (λ b. head_line b k) all ∙ ap (head_line m₀) number
 
           ends : (c : Checked) → check (ceiling_in acc) form.schema y.a ≡ c → Turned f k out page w' out' r (view_of form y.a) y.qs c
-              → Telling f form a₀ w' out₀ out' next (k + 1) p (charged_to acc v)
+              → Telling f form a₀ w' out₀ out' next (k + 1) page' (charged_to acc v) p₀ p'
           ends exhausted q z = let clash : ◌≡◌ {A = ℕ} 0 1 = cc in absurd (omega arith)
           ends (typed u) q z =
-              let same : Some (z.0, z.1, u.visits) ≡ Some (next, p, v) = sym z.2 ∙ e in
+              let same : Some (z.0, z.1, u.visits) ≡ Some (next, page', v) = sym z.2 ∙ e in
               let place : z.0 ≡ next = (triple_parts same).0 in
-              let to : z.1 ≡ p = (triple_parts same).1 in
+              let to : z.1 ≡ page' = (triple_parts same).1 in
               let made : u.visits ≡ v = (triple_parts same).2 in
               let rest : RunAt = run_at form.schema y.qs (charged_to acc u.visits) in
               let went : run_at form.schema (y.a ∷ y.qs) acc ≡ after acc (typed u) (λ b. run_at form.schema y.qs b) = ap
@@ -235,6 +264,12 @@ module _ {f : List ℕ} {a₀ : Account} {w₀ out₀ w out : List ℕ} {at k : 
                 stands = z.4.1;
                 written = subst (Continues out₀ 0 (lines_of (text_in form) m₀ 0 (x.ts ++ u ∷ [])) out') to
                     (continues_as (sym (lines_snoc (text_in form) m₀ 0 x.ts u)) (goes_on x.written follows));
+                made = x.made + u.visits;
+                charged = ap (λ b. charged_to b v) x.charged ∙ charged_to_more a₀ x.made v ∙ ap (λ n. charged_to a₀ (x.made + n)) (sym made);
+                turned = λ visits all t.
+                    let whole = y.in_turn (u.visits ∷ visits) all (ended u (from_the_start q) t) in
+                    record { visits = whole.visits; turns = whole.turns; sum = omega (arith, whole.sum, sum_by-cons (λ n. n) u.visits visits) };
+                within = let paid : spent p' ≤ spent p + v = rw e at pays in omega (arith, paid, x.within, made);
               }
 
       one_out : r ≡ None → run_at form.schema form.queries a₀ ≡ record
@@ -251,16 +286,40 @@ module _ {f : List ℕ} {a₀ : Account} {w₀ out₀ w out : List ℕ} {at k : 
           ends (typed u) q z = let same : Some (z.0, z.1, u.visits) ≡ None = sym z.2 ∙ e in let clash : ◌≡◌ {A = ℕ} 0 1 = cc in absurd
               (omega arith)
 
-    pub midway_on : (next : ℕ) (p : Option ℕ) (v : ℕ) → r ≡ Some (next, p, v) → {acc' : Account} → acc' ≡ charged_to acc v
-        → Midway f a₀ w₀ out₀ w' out' next (k + 1) p acc'
-    midway_on next p v e paid =
-        let on = t.onward here next p v e in
-        subst (Midway f a₀ w₀ out₀ w' out' next (k + 1) p) (sym paid) (record {
+      out_spends : {p' : Purse} → spent p' ≤ spent p + turn_visits ceiling r → r ≡ None → SpendsOn form a₀ p₀ p'
+      unfolding Turned
+      out_spends {p'} pays e = ends (check (ceiling_in acc) form.schema next_one.a) refl next_one.turned
+        where
+          ends : (c : Checked) → check (ceiling_in acc) form.schema next_one.a ≡ c
+              → Turned f k out page w' out' r (view_of form next_one.a) next_one.qs c → SpendsOn form a₀ p₀ p'
+          ends exhausted q z =
+              let last = ceiling_in (charged_to a₀ x.made) in
+              let whole = next_one.in_turn (last ∷ []) false (InTurn.stopped (from_the_start q)) in
+              let paid : spent p' ≤ spent p + ceiling = rw e at pays in
+              let same : ceiling ≡ last = its ∙ ap ceiling_in x.charged in
+              record {
+                visits = whole.visits;
+                all = false;
+                turns = whole.turns;
+                spent = omega (arith, paid, same, x.within, whole.sum, sum_by-cons (λ n. n) last []);
+              }
+          ends (typed u) q z = let same : Some (z.0, z.1, u.visits) ≡ None = sym z.2 ∙ e in let clash : ◌≡◌ {A = ℕ} 0 1 = cc in absurd
+              (omega arith)
+
+    pub spends_out : {p' : Purse} → spent p' ≤ spent p + turn_visits ceiling r → r ≡ None → SpendsOnQueries f w₀ a₀ p₀ p'
+    spends_out pays o = λ T form q l S. out_spends form l (m.is T form q l S) pays o
+
+    pub midway_on : {p' : Purse} → spent p' ≤ spent p + turn_visits ceiling r → (next : ℕ) (page' : Option ℕ) (v : ℕ) → r ≡ Some (next, page', v)
+        → {acc' : Account} → acc' ≡ charged_to acc v
+        → Midway f a₀ w₀ out₀ w' out' next (k + 1) page' acc' p₀ p'
+    midway_on {p'} pays next page' v e paid =
+        let on = t.onward here next page' v e in
+        subst (λ b. Midway f a₀ w₀ out₀ w' out' next (k + 1) page' b p₀ p') (sym paid) (record {
           words = long ∙ m.words;
           few = omega (arith, m.few, on.0);
           within = on.1;
           small = m.small;
-          is = λ T form q l S. one_told form l (m.is T form q l S) next p v e;
+          is = λ T form q l S. one_told form l (m.is T form q l S) pays next page' v e;
         })
 
     pub midway_out : r ≡ None → {last : Account} → last ≡ charged_to acc ceiling → {e : Refusal.Refusal} → refusal e ≡ stop_at ceiling
@@ -282,7 +341,7 @@ module _ {f : List ℕ} {a₀ : Account} {w₀ out₀ w out : List ℕ} {at k : 
     unfolding run_at resumed
     at_end_lem T form q l S = let x = m.is T form q l S in go x x.left x.are x.runs x.ahead
       where
-        go : (x : Telling f form a₀ w out₀ out at k page acc) (left : List Ast) → x.before ++ left ≡ form.queries
+        go : (x : Telling f form a₀ w out₀ out at k page acc p₀ p) (left : List Ast) → x.before ++ left ≡ form.queries
             → run_at form.schema form.queries a₀ ≡ resumed x.ts (run_at form.schema left acc) → Ahead f at left
             → (ts : List Typed) × (run_at form.schema form.queries a₀ ≡ record { account = acc; end = all ts }) × Continues out₀ 0
             (form_lines (text_in form) ts) out page
@@ -294,6 +353,16 @@ module _ {f : List ℕ} {a₀ : Account} {w₀ out₀ w out : List ℕ} {at k : 
               g ∙ ap {B = RunAt} (λ e. record { account = acc; end = e }) (firsts_all x.ts),
               continues_as (ap (λ n. lines_of (text_in form) (ltb 1 n) 0 x.ts) count ∙ sym (form_lines_lem (text_in form) x.ts)) x.written,
             )
+
+    pub midway_spent : SpendsOnQueries f w₀ a₀ p₀ p
+    midway_spent = λ T form q l S. let x = m.is T form q l S in go form x x.left x.ahead x.turned
+      where
+        go : (form : Form) (x : Telling f form a₀ w out₀ out at k page acc p₀ p) (left : List Ast) → Ahead f at left
+            → ((visits : List ℕ) (all : Bool) → InTurn form.schema a₀ left x.made visits all → WithFirst form a₀ x.made visits all) → SpendsOn form a₀ p₀ p
+        go form x (a ∷ qs) A i = absurd (omega (arith, query_ahead A))
+        go form x [] A i =
+            let whole = i [] true over in
+            record { visits = whole.visits; all = true; turns = whole.turns; spent = omega (arith, x.within, whole.sum) }
 
     module _ (o : Result ℕ Refusal) (tell : (ls : List ℕ) → Continues out₀ 0 ls out page → CallEnds out₀ out o (answered ls)) where
       by_page : RunsQueries f w₀ out₀ a₀ out (record { account = acc; outcome = o })

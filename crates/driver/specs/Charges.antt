@@ -1,8 +1,9 @@
--- What a call at a desk is charged, by the runs of `check` alone: the visits of each query that ended within its ceiling, the ceiling of one
--- that was stopped by it, and nothing where no query had its turn.
+-- The visits of a file's queries, by the runs of `check` alone: those of each query that ended within its ceiling, the ceiling of one that
+-- was stopped by it, and none where no query had its turn. A call at a desk is charged them.
 use Rattle.std.specs.Prelude.{Bool, true, false, List, [], ◌∷◌, ◌⊎◌, ◌≡◌, ℕ, ◌+◌, ◌≤◌, sum}
 use Rattle.cabinet.specs.declared.Group.{Group}
-use Rattle.cabinet.specs.Cabinet.{ceiling_of, charged}
+use Rattle.cabinet.specs.declared.Account.{Account}
+use Rattle.cabinet.specs.Accounts.{ceiling_in, charged_to}
 use Rattle.cabinet.specs.Promises.{At}
 use Rattle.cabinet.specs.Days.{UsedMore}
 use Rattle.format.specs.Syntax.{Ast}
@@ -11,20 +12,21 @@ use Rattle.format.specs.Refusal.{Refusal, answer_too_long, number}
 use Rattle.format.specs.File.{Form, described, reading}
 use Rattle.meaning.specs.Check.{Typed, typed, exhausted, check}
 use Rattle.meaning.specs.Outcome.{Result, Accepted, Refused, min_words}
+use Rattle.driver.specs.At.{desk_account}
 
--- Queries in turn at a desk that the call has charged so many visits: what each is charged, up to one that is stopped, and whether none is.
-pub data InTurn (schema : Schema) (g : Group) (d : ℕ) : List Ast → ℕ → List ℕ → Bool → Type 0 where
-  over : {n : ℕ} → InTurn schema g d [] n [] true
-  ended : {q : Ast} {qs : List Ast} {n : ℕ} {charges : List ℕ} {all : Bool} (t : Typed) → check (ceiling_of (charged g d n) d) schema q ≡ typed t
-      → InTurn schema g d qs (n + t.visits) charges all → InTurn schema g d (q ∷ qs) n (t.visits ∷ charges) all
-  stopped : {q : Ast} {qs : List Ast} {n : ℕ} → check (ceiling_of (charged g d n) d) schema q ≡ exhausted
-      → InTurn schema g d (q ∷ qs) n (ceiling_of (charged g d n) d ∷ []) false
+-- Queries in turn, after the call has charged so many visits to its account: the visits of each, up to one that is stopped, and whether none is.
+pub data InTurn (schema : Schema) (a : Account) : List Ast → ℕ → List ℕ → Bool → Type 0 where
+  over : {n : ℕ} → InTurn schema a [] n [] true
+  ended : {q : Ast} {qs : List Ast} {n : ℕ} {visits : List ℕ} {all : Bool} (t : Typed) → check (ceiling_in (charged_to a n)) schema q ≡ typed t
+      → InTurn schema a qs (n + t.visits) visits all → InTurn schema a (q ∷ qs) n (t.visits ∷ visits) all
+  stopped : {q : Ast} {qs : List Ast} {n : ℕ} → check (ceiling_in (charged_to a n)) schema q ≡ exhausted
+      → InTurn schema a (q ∷ qs) n (ceiling_in (charged_to a n) ∷ []) false
 
 -- The queries of a form; with an answer, or one that is longer than its slice, all of them have ended.
 pub record Charges (form : Form) (g : Group) (d charge : ℕ) (r : Result) : Type 0 where
   pub charges : List ℕ
   pub all : Bool
-  pub turns : InTurn form.schema g d form.queries 0 charges all
+  pub turns : InTurn form.schema (desk_account g d) form.queries 0 charges all
   pub sum : charge ≡ sum charges
   pub accepted : r ≡ Accepted → all ≡ true
   pub too_long : r ≡ Refused answer_too_long → all ≡ true

@@ -1,6 +1,7 @@
 pub mod At
 pub mod Turns
 pub mod Charges
+pub mod Spending
 pub mod Promises
 pub mod Demands
 pub mod Days

@@ -1,13 +1,16 @@
 // The whole call: a file, a work slice and an answer slice, three parameters as document 01 and C have them.
 #![tactic(auto)]
 
-ghost use Rattle.std.specs.Prelude.{[], ◌∷◌, ◌≡◌, ◌-◌, ◌<◌, ◌≤◌, length};
+ghost use Rattle.std.specs.Prelude.{[], ◌∷◌, ◌≡◌, ◌+◌, ◌-◌, ◌<◌, ◌≤◌, length};
 ghost use Rattle.format.specs.Refusal.{number};
 ghost use Rattle.format.specs.Bytes.{hex_line};
 ghost use Rattle.reading.specs.Promises.{refusal};
 ghost use Rattle.driver.specs.Turns.{OneOfSeveral, WritesHeading, Place, AnswersQuery, TakesTurn};
 ghost use Rattle.driver.specs.At.{stop_at};
 ghost use Rattle.driver.specs.Days.{UsesAddUp};
+ghost use Rattle.driver.specs.Spending.{answer_visits, turn_visits, SpendsOnQueries, SpendsOnFile, ChargesSpent};
+ghost use Rattle.cabinet.specs.declared.Account.TheVariants.{Open};
+ghost use Rattle.unify.specs.Purses.{spent};
 ghost use Rattle.driver.specs.Promises.{RunsQueries, RunsFile, Clears, ChecksFile, ChecksAt};
 
 use cabinet::{Account, Group};
@@ -70,7 +73,8 @@ fn answer_query(
     out: &mut [u8],
     purse: &mut Purse,
 ) -> Option<(Option<usize>, u32)>
-    ensures { AnswersQuery file.now work.old ceiling out.old work.new out.new result }
+    ensures is { AnswersQuery file.now work.old ceiling out.old work.new out.new result }
+    ensures spent { spent purse.new ≤ spent purse.old + answer_visits ceiling result }
 {
     let left = checker::query(file, work, Until::TheEnd, ceiling, out, purse)?;
     let visits = ceiling.saturating_sub(left);
@@ -86,7 +90,8 @@ fn one_query(
     out: &mut [u8],
     purse: &mut Purse,
 ) -> Option<(usize, Option<usize>, u32)>
-    ensures { TakesTurn file.now turn ceiling work.old out.old work.new out.new result }
+    ensures is { TakesTurn file.now turn ceiling work.old out.old work.new out.new result }
+    ensures spent { spent purse.new ≤ spent purse.old + turn_visits ceiling result }
 {
     let next = loading::load(file, turn.at, work);
     let head = heading(out, turn, next, file.len());
@@ -119,7 +124,8 @@ fn all_queries(
     purse: &mut Purse,
 ) -> Settled
     requires { length file.now ≤ 65536 }
-    ensures { RunsQueries file.now work.old out.old account out.new result }
+    ensures is { RunsQueries file.now work.old out.old account out.new result }
+    ensures spent { SpendsOnQueries file.now work.old account purse.old purse.new }
 {
     let mut charged = account;
     let mut turn = Turn {
@@ -159,7 +165,8 @@ fn run(
     account: Account,
     purse: &mut Purse,
 ) -> Settled
-    ensures { RunsFile file.now work.old out.old account work.new out.new result }
+    ensures is { RunsFile file.now work.old out.old account work.new out.new result }
+    ensures spent { SpendsOnFile file.now (length work.old) account purse.old purse.new }
 {
     let r = reading::read_file(file, work, Edition::Wide);
     match r {
@@ -185,7 +192,8 @@ pub fn check_file(
     out: &mut [u8],
     purse: &mut Purse,
 ) -> Result<usize, Refusal>
-    ensures { ChecksFile file.now work.old out.old work.new out.new result }
+    ensures is { ChecksFile file.now work.old out.old work.new out.new result }
+    ensures spent { SpendsOnFile file.now (length work.old) Open purse.old purse.new }
 {
     let s = run(file, work, out, Account::Open, purse);
     let r = s.outcome;
@@ -203,7 +211,8 @@ pub fn check_at(
     out: &mut [u8],
     purse: &mut Purse,
 ) -> Desked
-    ensures { ChecksAt g desk file.now work.old out.old work.new out.new result }
+    ensures is { ChecksAt g desk file.now work.old out.old work.new out.new result }
+    ensures spent { ChargesSpent g desk result.group purse.old purse.new }
 {
     if let Some(seat) = g.seat(desk) {
         let s = run(file, work, out, Account::At(seat), purse);

@@ -8,6 +8,7 @@ use Rattle.driver.proofs.all_queries.Given as goal
 abbrev pub invariant-loop-turn : goal.invariant-loop-turn
 invariant-loop-turn l =
     (length l.out ≡ length l.initial.out) × Midway l.file l.initial.charged l.initial.work l.initial.out l.work l.out l.turn.at l.turn.k l.turn.page l.charged
+    l.initial.purse l.purse
 
 abbrev pub decreases-loop-turn : goal.decreases-loop-turn
 decreases-loop-turn l = length l.file - l.turn.at

@@ -2,5 +2,5 @@
 use Rattle.driver.proofs.Deciding.{checks_file}
 use Rattle.driver.proofs.check_file.Goals as goal
 
-pub returns : goal.returns
-returns c = checks_file c.run-s.ensures c.clear_after.ensures
+pub returns-clause-is : goal.returns-clause-is
+returns-clause-is c = checks_file c.run-s.ensures.is c.clear_after.ensures
