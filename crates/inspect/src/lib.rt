@@ -6,8 +6,8 @@ ghost use Rattle.inspect.specs.Promises.{inspected_by, line_of, Answers, Inspect
 
 use plain::Unsolved;
 use reading::Refusal;
-use work::clear;
 use unify::Purse;
+use work::clear;
 
 // After a success with the words that the bindings take in the lent slice; `TooFewWords` is refusal 18.
 // No Result: the definition's six answers one to one; as a Result they would be two types, and each use would join them
@@ -36,10 +36,16 @@ impl From<Result<usize, Unsolved>> for Inspected {
 }
 
 // The work slice holds anything afterwards.
-fn answer(file: &[u8], n: u32, work: &mut [u32], lent: &mut [u32]) -> Inspected
+fn answer(
+    file: &[u8],
+    n: u32,
+    work: &mut [u32],
+    lent: &mut [u32],
+    purse: &mut Purse,
+) -> Inspected
     ensures { Answers file.now n work.old lent.old work.new lent.new result }
 {
-    match seek::seek(file, n, work, &mut Purse::full(0)) {
+    match seek::seek(file, n, work, purse) {
         Ok(Some((got, expected))) => Inspected::from(solver::solve(work, got, expected, lent)),
         Ok(None) => {
             work::clear(lent);
@@ -52,12 +58,18 @@ fn answer(file: &[u8], n: u32, work: &mut [u32], lent: &mut [u32]) -> Inspected
     }
 }
 
-pub fn inspect(file: &[u8], n: u32, work: &mut [u32], lent: &mut [u32]) -> Inspected
+pub fn inspect(
+    file: &[u8],
+    n: u32,
+    work: &mut [u32],
+    lent: &mut [u32],
+    purse: &mut Purse,
+) -> Inspected
     ensures { Inspects file.now n work.old lent.old work.new lent.new result }
 {
     // Words that the caller left would be taken for records, and each would be looked through.
     clear(work);
-    let answered = answer(file, n, work, lent);
+    let answered = answer(file, n, work, lent, purse);
     work::clear(work);
     answered
 }

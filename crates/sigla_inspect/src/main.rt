@@ -20,6 +20,7 @@ use inspect::Inspected;
 use std::env::Env;
 use std::io::{Read, Write};
 use std::process::ExitCode;
+use unify::Purse;
 
 const PAGE: Page = Page {
     name: "sigla_inspect",
@@ -63,7 +64,8 @@ fn answer<R: Read, W: Write>(number: u32, from: &mut R, to: &mut W) -> Result<()
     let mut work = [0; 16384];
     let mut lent = [0; 65536];
     let n = input::read(from, &mut file)?;
-    let inspected = inspect::inspect(&file[..n], number, &mut work, &mut lent);
+    let mut purse = Purse::full(0);
+    let inspected = inspect::inspect(&file[..n], number, &mut work, &mut lent, &mut purse);
     write_inspected(to, inspected, &lent)
 }
 

@@ -93,7 +93,7 @@ pub extern "C" fn sigla_inspect(
 ) -> u8
     ensures { CallsInspect file.now n work.old lent.old work.new lent.new told.new result }
 {
-    let r = inspect::inspect(file, n, work, lent);
+    let r = inspect::inspect(file, n, work, lent, &mut Purse::full(0));
     match r {
         Inspected::Success(_) => {
             *told = 1;
