@@ -3,7 +3,7 @@ mod Turning
 mod Telling
 pub mod Opening
 pub mod Charges
-mod Spending
+pub mod Spending
 pub mod Deciding
 mod Lining
 pub mod Demands

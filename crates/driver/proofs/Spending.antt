@@ -57,7 +57,7 @@ module _ {f w w₁ : List ℕ} {r : Result (Unit {0}) Refusal} (h : ReadsFile wi
     queries = λ form l s. go form (subst (ReadingEnds wide f w₁ r) (long_enough l ∙ s) h.ends);
   }
     where
-      go : (form : Form) → ReadingEnds wide f w₁ r (described form) → SpendsOn form a p p
+      go : (form : Form) → ReadingEnds wide f w₁ r (described form) → SpendsOn form.schema form.queries a p p
       go form g = clash (cc (q, g.0))
 
   pub read_spends : r ≡ Ok tt → {a : Account} {p p' : Purse} → SpendsOnQueries f w₁ a p p' → SpendsOnFile f (length w) a p p'

@@ -286,12 +286,12 @@ module _ {f : List ℕ} {a₀ : Account} {w₀ out₀ w out : List ℕ} {at k : 
           ends (typed u) q z = let same : Some (z.0, z.1, u.visits) ≡ None = sym z.2 ∙ e in let clash : ◌≡◌ {A = ℕ} 0 1 = cc in absurd
               (omega arith)
 
-      out_spends : {p' : Purse} → spent p' ≤ spent p + turn_visits ceiling r → r ≡ None → SpendsOn form a₀ p₀ p'
+      out_spends : {p' : Purse} → spent p' ≤ spent p + turn_visits ceiling r → r ≡ None → SpendsOn form.schema form.queries a₀ p₀ p'
       unfolding Turned
       out_spends {p'} pays e = ends (check (ceiling_in acc) form.schema next_one.a) refl next_one.turned
         where
           ends : (c : Checked) → check (ceiling_in acc) form.schema next_one.a ≡ c
-              → Turned f k out page w' out' r (view_of form next_one.a) next_one.qs c → SpendsOn form a₀ p₀ p'
+              → Turned f k out page w' out' r (view_of form next_one.a) next_one.qs c → SpendsOn form.schema form.queries a₀ p₀ p'
           ends exhausted q z =
               let last = ceiling_in (charged_to a₀ x.made) in
               let whole = next_one.in_turn (last ∷ []) false (InTurn.stopped (from_the_start q)) in
@@ -358,7 +358,7 @@ module _ {f : List ℕ} {a₀ : Account} {w₀ out₀ w out : List ℕ} {at k : 
     midway_spent = λ T form q l S. let x = m.is T form q l S in go form x x.left x.ahead x.turned
       where
         go : (form : Form) (x : Telling f form a₀ w out₀ out at k page acc p₀ p) (left : List Ast) → Ahead f at left
-            → ((visits : List ℕ) (all : Bool) → InTurn form.schema a₀ left x.made visits all → WithFirst form a₀ x.made visits all) → SpendsOn form a₀ p₀ p
+            → ((visits : List ℕ) (all : Bool) → InTurn form.schema a₀ left x.made visits all → WithFirst form a₀ x.made visits all) → SpendsOn form.schema form.queries a₀ p₀ p
         go form x (a ∷ qs) A i = absurd (omega (arith, query_ahead A))
         go form x [] A i =
             let whole = i [] true over in

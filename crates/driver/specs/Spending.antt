@@ -4,6 +4,8 @@ use Rattle.cells.specs.Stands.{Rows}
 use Rattle.cabinet.specs.declared.Account.{Account}
 use Rattle.cabinet.specs.declared.Group.{Group}
 use Rattle.cabinet.specs.Cabinet.{desk}
+use Rattle.format.specs.Syntax.{Ast}
+use Rattle.format.specs.Schema.{Schema}
 use Rattle.format.specs.Refusal.{Refusal}
 use Rattle.format.specs.File.{Form, refused, described, reading}
 use Rattle.meaning.specs.Outcome.{min_words}
@@ -25,16 +27,17 @@ turn_visits ceiling (Some r) = r.2
 
 -- ---- The queries
 
-pub record SpendsOn (form : Form) (a : Account) (p p' : Purse) : Type 0 where
+pub record SpendsOn (schema : Schema) (qs : List Ast) (a : Account) (p p' : Purse) : Type 0 where
   pub visits : List ℕ
   pub all : Bool
-  pub turns : InTurn form.schema a form.queries 0 visits all
+  pub turns : InTurn schema a qs 0 visits all
   pub spent : spent p' ≤ spent p + sum visits
 
 -- Of a described form whose schema and names stand in the words.
 abbrev pub SpendsOnQueries : List ℕ → List ℕ → Account → Purse → Purse → Type 0
 SpendsOnQueries f w a p p' =
-    (T : Rows) (form : Form) → reading f ≡ described form → min_words ≤ length w → SchemaStands f w T form.names form.schema → SpendsOn form a p p'
+    (T : Rows) (form : Form) → reading f ≡ described form → min_words ≤ length w → SchemaStands f w T form.names form.schema
+    → SpendsOn form.schema form.queries a p p'
 
 -- ---- The whole call
 
@@ -42,7 +45,7 @@ SpendsOnQueries f w a p p' =
 pub record SpendsOnFile (f : List ℕ) (words : ℕ) (a : Account) (p p' : Purse) : Type 0 where
   pub short : words < min_words → spent p' ≤ spent p
   pub refused : (i : Refusal) → reading f ≡ refused i → spent p' ≤ spent p
-  pub queries : (form : Form) → min_words ≤ words → reading f ≡ described form → SpendsOn form a p p'
+  pub queries : (form : Form) → min_words ≤ words → reading f ≡ described form → SpendsOn form.schema form.queries a p p'
 
 -- The desk is charged for all that was spent.
 abbrev pub ChargesSpent : Group → ℕ → Group → Purse → Purse → Type 0

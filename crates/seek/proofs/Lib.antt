@@ -1,4 +1,5 @@
 pub mod Counting
+pub mod Spending
 pub mod Running
 pub mod Placing
 pub mod Stopping

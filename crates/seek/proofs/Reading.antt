@@ -14,6 +14,12 @@ use Rattle.entries.specs.Entries.{sought_run, sought_read, entry_at}
 use Rattle.reading.specs.Promises.{refusal, ReadingEnds, reading_in, ReadsFile}
 use Rattle.reading.specs.declared.Refusal.{Refusal}
 use Rattle.seek.specs.Promises.{Places, ToldSought, StopsAtEntry, Finds, Seeks}
+use Rattle.seek.specs.Spending.{SpendsUpTo, SpendsAgain, not_again, up_to_it, SpendsOnFind, SpendsOnEntry}
+use Rattle.cabinet.specs.declared.Account.TheVariants.{Open}
+use Rattle.driver.specs.Spending.{SpendsOnQueries}
+use Rattle.driver.proofs.Spending.{unread_spends, read_spends}
+use Rattle.unify.specs.declared.Purse.{Purse}
+use native.Mathlib.Omega.{arith}
 use Rattle.std.specs.Prelude.{Err, None, Ok, Option, Result, Some}
 use Rattle.cells.specs.declared.Ty.{Ty}
 
@@ -23,8 +29,20 @@ module _ {f : List ℕ} {n : ℕ} {w w₁ : List ℕ} where
   pub find_at : {at rest : ℕ} → Places f n w w₁ (Ok (Some (at, rest))) → {w₂ : List ℕ} {r : Ty × Ty} → StopsAtEntry f at rest w₁ w₂ r
       → Finds f n w w₂ (Ok (Some r))
   find_at P S = record {
-    is = λ T form q l s. S.is form (sought_run form.schema form.queries n (run_all form.schema form.queries)) (rw P.words l) (P.is T form q l s);
+    is = λ T form q l s. S.is form (sought_run form.schema form.queries n (run_all form.schema form.queries)) (rw P.words l) (P.is T form q l s).0;
     words = S.words ∙ P.words;
+  }
+
+  -- The query of the entry is run again, from where the whole runs left the purse.
+  pub find_at_spends : {at rest : ℕ} → Places f n w w₁ (Ok (Some (at, rest))) → {p₁ : Purse} → {p : Purse} → SpendsOnQueries f w Open p p₁
+      → {p' : Purse} → SpendsUpTo f at rest w₁ p₁ p' → SpendsOnFind f n w p p'
+  find_at_spends {at} {rest} P {p₁} runs again = record {
+    between = p₁;
+    runs = runs;
+    again = λ T form q l s.
+        let x = P.is T form q l s in
+        up_to_it form x.0.query rest q x.1
+        (again.made form (sought_run form.schema form.queries n (run_all form.schema form.queries)) (rw P.words l) x.0);
   }
 
   pub find_fewer : Places f n w w₁ (Ok None) → Finds f n w w₁ (Ok None)
@@ -35,6 +53,9 @@ module _ {f : List ℕ} {n : ℕ} {w w₁ : List ℕ} where
     is = λ T form q l s. let h = P.is T form q l s in subst (ToldSought w₁ (Err e)) (sym h.1) (e, refl, ap refusal h.0);
     words = P.words;
   }
+
+pub found_none_spends : {f : List ℕ} {n : ℕ} {w : List ℕ} {p p' : Purse} → SpendsOnQueries f w Open p p' → SpendsOnFind f n w p p'
+found_none_spends {p' = p'} runs = record { between = p'; runs = runs; again = λ T form q l s. not_again (omega arith) }
 
 -- ---- The reading
 
@@ -70,3 +91,18 @@ module _ {f w w₁ : List ℕ} {x : Result (Unit {0}) Refusal} (h : ReadsFile wi
       go : (y : Reading) → reading_in wide f (length w) ≡ y → ReadingEnds wide f w₁ x y → ToldSought w₂ r (sought_read n y)
       go (refused i) e g = clash (cc (q, g.1))
       go (described d) e g = F.is g.2.0 d (enough_words f (length w) d e) g.1 g.2.1
+
+  pub not_read_spends : {e : Refusal} (n : ℕ) → x ≡ Err e → (p : Purse) → SpendsOnEntry f n (length w) p p
+  not_read_spends n q p = record { between = p; runs = unread_spends h q Open p; again = not_again (omega arith) }
+
+  pub was_read_spends : {n : ℕ} → x ≡ Ok tt → {p p' : Purse} → SpendsOnFind f n w₁ p p' → SpendsOnEntry f n (length w) p p'
+  unfolding ReadingEnds min_words
+  was_read_spends {n} q {p} {p'} F = record {
+    between = F.between;
+    runs = read_spends h q F.runs;
+    again = go (reading_in wide f (length w)) refl h.ends;
+  }
+    where
+      go : (y : Reading) → reading_in wide f (length w) ≡ y → ReadingEnds wide f w₁ x y → SpendsAgain f n F.between p'
+      go (refused i) e g = clash (cc (q, g.1))
+      go (described d) e g = F.again g.2.0 d (enough_words f (length w) d e) g.1 g.2.1

@@ -1,13 +1,13 @@
 -- The entry's query run again: it ends right before the entry, in its state, and the four words have its sides.
 use mathlib.Core.List.{List, ◌∷◌}
 use mathlib.Core.Path.{◌≡◌, refl, sym, ap, ◌∙◌, subst}
-use Prim.Native.Nat.{ℕ, ◌+◌, ◌≤◌, ◌<◌}
+use Prim.Native.Nat.{ℕ, ◌+◌, ◌-◌, ◌≤◌, ◌<◌}
 use native.Mathlib.Omega.{arith}
 use lib.ListN.{length, get_or}
 use Rattle.unification.specs.Ty as Tree
 use Rattle.unification.specs.Calls.{UnifyEntry}
 use Rattle.unification.proofs.Tests.{clash}
-use Rattle.work.specs.Layout.{GOT, EXPECTED}
+use Rattle.work.specs.Layout.{GOT, EXPECTED, LEFT}
 use Rattle.cells.specs.declared.Ty.{Ty}
 use Rattle.cells.specs.Words.{ty_w}
 use Rattle.cells.specs.Stands.{Rows}
@@ -22,7 +22,11 @@ use Rattle.entries.specs.Entries.{entries_of, nth, found, among}
 use Rattle.entries.proofs.Entries.{StopsAt, stops_at}
 use Rattle.state.specs.Lines.{side_w, EntrySides, AtEntry}
 use Rattle.state.specs.declared.Until.TheVariants as Until
-use Rattle.checker.specs.Promises.{Ran, ended_early, run_until, Queries}
+use Rattle.checker.specs.Promises.{Ran, to_the_end, ended_early, run_until, Queries}
+use Rattle.checker.specs.Paid.{Pays, Notes}
+use Rattle.seek.specs.Spending.{visits_up_to, SpendsUpTo}
+use Rattle.unify.specs.declared.Purse.{Purse}
+use Rattle.unify.specs.Purses.{spent}
 use Rattle.loading.specs.Promises.{Loads}
 use Rattle.seek.specs.Promises.{SoughtHere, ToldSought, StopsAtEntry}
 use Rattle.seek.proofs.Counting.{until_kept}
@@ -81,3 +85,24 @@ module _ {f w w₁ o w₂ o' : List ℕ} {at n next : ℕ} {x : Option ℕ} (L :
                   expected = rw expected sides.3;
                 },
               )
+
+  -- It spends what the definition's run does up to the entry.
+  pub stops_spends : {p p' : Purse} → Pays 1048576 p p' → Notes w₂ p' x → SpendsUpTo f at n w p p'
+  unfolding view_of visits_up_to ending max_visits min_words
+  stops_spends {p} {p'} pays notes = record { made = made }
+    where
+      made : (form : Form) (s : Defined.Sought) → min_words ≤ length w → (W : SoughtHere f w form at n s)
+          → spent p' ≤ spent p + visits_up_to form.schema W.query n
+      made form s l W =
+          let d = view_of form W.query in
+          by (run_until (Check.entry n) d 1048576) (run_is form W.query n) (Q.is W.rows d W.sound (L.stands W.rows d W.more W.sound l W.stands W.ahead))
+        where
+          left_by : (y : Step Tree.Ty) → Ran f w₂ o' (view_of form W.query) x y → spent p' ≤ spent p + (max_visits - (ending y).state.left)
+          left_by (goes ty c) (to_the_end T R t q) = omega (arith, pays, notes.back _ q)
+          left_by (out c) (ended_early T R t k q) =
+              let noted : get_or w₂ LEFT 0 ≡ p'.left = notes.noted q (omega (arith, l, Q.words, L.words.long)) in
+              omega (arith, pays, noted, t.left)
+
+          by : (y : Step Tree.Ty) → y ≡ query form.schema W.query.nodes W.query.query (begin_until (Check.entry n) max_visits (length W.query.nodes))
+              → Ran f w₂ o' (view_of form W.query) x y → spent p' ≤ spent p + visits_up_to form.schema W.query n
+          by y e r = subst (λ (z : Step Tree.Ty). spent p' ≤ spent p + (max_visits - (ending z).state.left)) e (left_by y r)

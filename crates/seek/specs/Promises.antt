@@ -15,7 +15,7 @@ use Rattle.meaning.specs.Check.{Checker, Step, goes, out, Typed}
 use Rattle.meaning.specs.Run.{run}
 use Rattle.meaning.specs.Outcome.{min_words, max_visits, run_all}
 use Rattle.entries.specs.Entries as Defined
-use Rattle.entries.specs.Entries.{entries_of, nth, found, fewer, turned_down, among, sought_run, entry_at}
+use Rattle.entries.specs.Entries.{entries_of, nth, found, fewer, turned_down, among, sought_run, entry_at, FallsIn}
 use Rattle.tree.specs.Stands.{SchemaStands}
 use Rattle.loading.specs.Promises.{Ahead}
 use Rattle.reading.specs.Promises.{refusal}
@@ -63,15 +63,16 @@ pub record SoughtHere (f w : List ℕ) (form : Form) (at rest : ℕ) (s : Define
   pub here : rest < length (entries_of form.schema query)
   pub is : s ≡ among (nth (entries_of form.schema query) rest)
 
--- There is such an entry, there are fewer, or a query's visits ran out.
-abbrev pub PlacedEntry : List ℕ → List ℕ → Form → Result (Option (ℕ × ℕ)) Refusal → Defined.Sought → Type 0
-PlacedEntry f w' form (Result.Ok (Some place)) s = SoughtHere f w' form place.0 place.1 s
-PlacedEntry f w' form (Result.Ok None) s = s ≡ fewer
-PlacedEntry f w' form (Err e) s = (e ≡ Refusal.TooManyVisits) × (s ≡ turned_down too_many_visits)
+-- There is such an entry, and it is the file's n-th; there are fewer; or a query's visits ran out.
+abbrev pub PlacedEntry : List ℕ → List ℕ → Form → ℕ → Result (Option (ℕ × ℕ)) Refusal → Defined.Sought → Type 0
+PlacedEntry f w' form n (Result.Ok (Some place)) s =
+    (here : SoughtHere f w' form place.0 place.1 s) × FallsIn form.schema form.queries n here.query place.1
+PlacedEntry f w' form n (Result.Ok None) s = s ≡ fewer
+PlacedEntry f w' form n (Err e) s = (e ≡ Refusal.TooManyVisits) × (s ≡ turned_down too_many_visits)
 
 pub record Places (f : List ℕ) (n : ℕ) (w w' : List ℕ) (r : Result (Option (ℕ × ℕ)) Refusal) : Type 0 where
   pub is : (T : Rows) (form : Form) → reading f ≡ described form → min_words ≤ length w → SchemaStands f w T form.names form.schema
-      → PlacedEntry f w' form r (sought_run form.schema form.queries n (run_all form.schema form.queries))
+      → PlacedEntry f w' form n r (sought_run form.schema form.queries n (run_all form.schema form.queries))
   pub words : length w' ≡ length w
 
 -- ---- The entry

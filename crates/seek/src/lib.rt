@@ -3,7 +3,11 @@
 // driver.
 #![tactic(auto)]
 
+ghost use Rattle.std.specs.Prelude.{length};
+ghost use Rattle.cabinet.specs.declared.Account.TheVariants.{Open};
+ghost use Rattle.driver.specs.Spending.{SpendsOnQueries};
 ghost use Rattle.seek.specs.Promises.{CountsEntries, RunsOn, Places, StopsAtEntry, Finds, Seeks};
+ghost use Rattle.seek.specs.Spending.{SpendsOnRun, SpendsOnRest, SpendsUpTo, SpendsOnFind, SpendsOnEntry};
 
 use cells::Ty;
 use reading::{Counters, Edition, Refusal};
@@ -19,7 +23,8 @@ fn one_query(
     work: &mut [u32],
     purse: &mut Purse,
 ) -> Result<(usize, u32), Refusal>
-    ensures { CountsEntries file.now at work.old work.new result }
+    ensures is { CountsEntries file.now at work.old work.new result }
+    ensures spent { SpendsOnRun file.now at work.old purse.old purse.new }
 {
     let next = loading::load(file, at, work);
     checker::query(file, work, Until::TheEnd, Counters::VISITS, &mut [], purse).ok_or(
@@ -31,7 +36,8 @@ fn one_query(
 // The queries from a place on, as long as they come to their ends. No `for`, here and in `place_of`: where the next
 // query starts is what the run of this one gives back.
 fn run_on(file: &[u8], from: usize, work: &mut [u32], purse: &mut Purse) -> Result<(), Refusal>
-    ensures { RunsOn file.now from work.old work.new result }
+    ensures is { RunsOn file.now from work.old work.new result }
+    ensures spent { SpendsOnRest file.now from work.old purse.old purse.new }
 {
     let mut at = from;
     while at < file.len() {
@@ -48,7 +54,8 @@ fn place_of(
     work: &mut [u32],
     purse: &mut Purse,
 ) -> Result<Option<(usize, u32)>, Refusal>
-    ensures { Places file.now n work.old work.new result }
+    ensures is { Places file.now n work.old work.new result }
+    ensures spent { SpendsOnQueries file.now work.old Open purse.old purse.new }
 {
     let mut at: usize = 0;
     let mut rest = n;
@@ -66,10 +73,18 @@ fn place_of(
 
 // The query from `at` on is run again, up to its n-th entry.
 fn sides_at(file: &[u8], at: usize, n: u32, work: &mut [u32], purse: &mut Purse) -> (Ty, Ty)
-    ensures { StopsAtEntry file.now at n work.old work.new result }
+    ensures is { StopsAtEntry file.now at n work.old work.new result }
+    ensures spent { SpendsUpTo file.now at n work.old purse.old purse.new }
 {
     loading::load(file, at, work);
-    checker::query(file, work, Until::Entry(n), Counters::VISITS, &mut [], purse);
+    checker::query(
+        file,
+        work,
+        Until::Entry(n),
+        Counters::VISITS,
+        &mut [],
+        purse,
+    );
     let got = Ty::from_words(word(work, work::GOT), word(work, work::GOT + 1));
     let expected = Ty::from_words(word(work, work::EXPECTED), word(work, work::EXPECTED + 1));
     (got, expected)
@@ -82,7 +97,8 @@ fn find(
     work: &mut [u32],
     purse: &mut Purse,
 ) -> Result<Option<(Ty, Ty)>, Refusal>
-    ensures { Finds file.now n work.old work.new result }
+    ensures is { Finds file.now n work.old work.new result }
+    ensures spent { SpendsOnFind file.now n work.old purse.old purse.new }
 {
     let Some((at, rest)) = place_of(file, n, work, purse)? else {
         return Ok(None);
@@ -97,7 +113,8 @@ pub fn seek(
     work: &mut [u32],
     purse: &mut Purse,
 ) -> Result<Option<(Ty, Ty)>, Refusal>
-    ensures { Seeks file.now n work.old work.new result }
+    ensures is { Seeks file.now n work.old work.new result }
+    ensures spent { SpendsOnEntry file.now n (length work.old) purse.old purse.new }
 {
     reading::read_file(file, work, Edition::Wide)?;
     find(file, n, work, purse)
