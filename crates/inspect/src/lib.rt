@@ -1,7 +1,8 @@
 // Card 12's call: the plain solver at the n-th entry to `unify` of a file's run.
 #![tactic(auto)]
 
-ghost use Rattle.std.specs.Prelude.{◌≡◌};
+ghost use Rattle.std.specs.Prelude.{◌≡◌, length};
+ghost use Rattle.seek.specs.Spending.{SpendsOnEntry};
 ghost use Rattle.inspect.specs.Promises.{inspected_by, line_of, Answers, Inspects};
 
 use plain::Unsolved;
@@ -43,7 +44,8 @@ fn answer(
     lent: &mut [u32],
     purse: &mut Purse,
 ) -> Inspected
-    ensures { Answers file.now n work.old lent.old work.new lent.new result }
+    ensures is { Answers file.now n work.old lent.old work.new lent.new result }
+    ensures spent { SpendsOnEntry file.now n (length work.old) purse.old purse.new }
 {
     match seek::seek(file, n, work, purse) {
         Ok(Some((got, expected))) => Inspected::from(solver::solve(work, got, expected, lent)),
@@ -65,7 +67,8 @@ pub fn inspect(
     lent: &mut [u32],
     purse: &mut Purse,
 ) -> Inspected
-    ensures { Inspects file.now n work.old lent.old work.new lent.new result }
+    ensures is { Inspects file.now n work.old lent.old work.new lent.new result }
+    ensures spent { SpendsOnEntry file.now n (length work.old) purse.old purse.new }
 {
     // Words that the caller left would be taken for records, and each would be looked through.
     clear(work);
