@@ -20,7 +20,7 @@ use Rattle.format.specs.All.{All, Each}
 use Rattle.format.specs.File.{Form, view_of, Reading, refused, described, reading}
 use Rattle.format.specs.Sound.{Sound}
 use Rattle.meaning.specs.Messages.{text_in}
-use Rattle.meaning.specs.Check.{Checker, Step, goes, out, entry, begin_until, query, Typed, typed, checked, check, reversed}
+use Rattle.meaning.specs.Check.{Checker, Step, goes, out, entry, begin_until, query, Typed, typed, checked, check, reversed, lasting}
 use Rattle.meaning.specs.Run.{ending, run}
 use Rattle.meaning.specs.Entries.{EntryLed, EntriesLead, no_entry, rolled_back, then_entry, EntryOfRun}
 use Rattle.meaning.specs.Outcome as Outcome
@@ -29,7 +29,7 @@ use Rattle.format.proofs.Tests.{cases}
 use Rattle.meaning.proofs.Forms.{Ran, Runs, all_ran, one_out, runs}
 use Rattle.meaning.proofs.Run.{sound_well_formed, run_entries}
 use Rattle.format.proofs.Sound.{sound}
-use Rattle.laws.proofs.Agree.{Lit, dark_goes, dark_out, shines}
+use Rattle.laws.proofs.Agree.{Lit, dark_goes, dark_out, shines, NoneRegained}
 use Rattle.laws.proofs.Until.{run_until_lem}
 use Rattle.entries.specs.Entries.{entries_of, entries_all, nth, found, turned_down, among, sought_run, sought_read, entry_at, FallsIn, here, later, OwnEntry}
 use Rattle.std.specs.Prelude.{None, Option, Some}
@@ -110,7 +110,7 @@ module _ (schema : Schema) (a : Ast) where
         go : (s s' : Step Ty) → run_to n ≡ s' → s ≡ goes ty c → Lit (entry n) s s' → StopsAt n
         go s s' is q (dark_goes t b z) = let same : b ≡ c = cc q in absurd (omega (arith, entries_many, ap (λ (x : Checker). length x.entries) same))
         go s s' is q (dark_out b z) = clash (cc q)
-        go s s' is q (shines _ b (x, older, p, m, f) l) =
+        go s s' is q (shines _ b (x, older, p, m, f) l r) =
             let all : c.entries ≡ l.entered ++ x ∷ older = sym (ap (λ (k : Step Ty). (ending k).entries) q) ∙ l.entries ∙ ap {B = List UnifyEntry}
             (λ es. l.entered ++ es) p in
             record {
@@ -124,6 +124,16 @@ module _ (schema : Schema) (a : Ast) where
               nth_is = ap {B = Option UnifyEntry} (λ es. nth es n) (entries_are ∙ ap {B = List UnifyEntry} (λ es. reversed es []) all)
                   ∙ subst (λ k. nth (reversed (l.entered ++ x ∷ older) []) k ≡ Some x) m (nth_newer l.entered older x);
             }
+
+    -- It is the beginning of the whole run: more visits are left.
+    pub no_more_made : (n : ℕ) → c.state.left ≤ (ending (run_to n)).state.left
+    unfolding ending lasting
+    no_more_made n = go (run schema a max_visits) (run_to n) e (run_until_lem schema a (entry n) max_visits)
+      where
+        go : (s s' : Step Ty) → s ≡ goes ty c → Lit (entry n) s s' → c.state.left ≤ (ending s').state.left
+        go s s' q (dark_goes t b z) = let same : b ≡ c = cc q in omega (arith, ap (λ (x : Checker). x.state.left) same)
+        go s s' q (dark_out b z) = clash (cc q)
+        go s s' q (shines _ b p l r) = subst (NoneRegained b) q r
 
 -- ---- An entry in its run
 

@@ -57,7 +57,7 @@ module _ (schema : Schema) where
           → LampIs schema (a ∷ qs) (lamp_after s' l)
       go s s' e (dark_goes ty c n) l = clean_first a qs (ty, c, e, n) l
       go s s' e (dark_out c n) l = rw n (ran_out (here (c, e, n)))
-      go s s' e (shines _ c (d, q) p) l =
+      go s s' e (shines _ c (d, q) p r) l =
           let all : (ending s).diagnostics ≡ p.reported ++ d ∷ [] = p.diagnostics ∙ ap {B = List Diagnostic} (λ ds. p.reported ++ ds) q in
           rw q (shown (here (λ z. not_empty p.reported d (sym all ∙ ap (λ (x : Step Ty). (ending x).diagnostics) (sym e) ∙ z))))
 

@@ -1,20 +1,24 @@
 -- The reading, and then the queries of what was read: what is sought, by what the reading comes to in so many words.
 use mathlib.Core.List.{List}
 use mathlib.Core.Path.{◌≡◌, refl, sym, ap, ◌∙◌, subst}
-use Prim.Native.Nat.{ℕ}
+use Prim.Native.Nat.{ℕ, ◌-◌, ◌≤◌}
 use lib.Dec.{ltb}
 use lib.ListN.{length}
 use Rattle.unification.proofs.Tests.{clash}
 use Rattle.format.specs.Frame.{wide}
 use Rattle.format.specs.Refusal as Meaning
 use Rattle.format.specs.File.{Form, Reading, refused, described, reading}
-use Rattle.meaning.specs.Outcome.{min_words, run_all}
+use Rattle.meaning.specs.Outcome.{min_words, max_visits, run_all}
 use Rattle.format.proofs.Tests.{cases}
 use Rattle.entries.specs.Entries.{sought_run, sought_read, entry_at}
 use Rattle.reading.specs.Promises.{refusal, ReadingEnds, reading_in, ReadsFile}
 use Rattle.reading.specs.declared.Refusal.{Refusal}
-use Rattle.seek.specs.Promises.{Places, ToldSought, StopsAtEntry, Finds, Seeks}
-use Rattle.seek.specs.Spending.{SpendsUpTo, SpendsAgain, not_again, up_to_it, SpendsOnFind, SpendsOnEntry}
+use Rattle.meaning.specs.Check.{check, checked}
+use Rattle.meaning.specs.Run.{ending, run}
+use Rattle.entries.specs.Entries.{Sought}
+use Rattle.entries.proofs.Entries.{no_more_made}
+use Rattle.seek.specs.Promises.{SoughtHere, Places, ToldSought, StopsAtEntry, Finds, Seeks}
+use Rattle.seek.specs.Spending.{run_visits, visits_up_to, SpendsUpTo, SpendsAgain, not_again, up_to_it, SpendsOnFind, SpendsOnEntry}
 use Rattle.cabinet.specs.declared.Account.TheVariants.{Open}
 use Rattle.driver.specs.Spending.{SpendsOnQueries}
 use Rattle.driver.proofs.Spending.{unread_spends, read_spends}
@@ -22,6 +26,14 @@ use Rattle.unify.specs.declared.Purse.{Purse}
 use native.Mathlib.Omega.{arith}
 use Rattle.std.specs.Prelude.{Err, None, Ok, Option, Result, Some}
 use Rattle.cells.specs.declared.Ty.{Ty}
+
+-- The second run of the entry's query is the beginning of the first.
+beginning : {f w : List ℕ} {form : Form} {at rest : ℕ} {s : Sought} (W : SoughtHere f w form at rest s)
+    → visits_up_to form.schema W.query rest ≤ run_visits (check max_visits form.schema W.query)
+unfolding visits_up_to ending check checked run max_visits
+beginning {form = form} {rest = rest} W =
+    let e : run_visits (check max_visits form.schema W.query) ≡ max_visits - W.last.state.left = ap (λ y. run_visits (checked max_visits y)) W.ran in
+    rw e (omega (arith, no_more_made form.schema W.query W.ty W.last W.ran rest))
 
 -- ---- Of a file that was read
 
@@ -41,7 +53,7 @@ module _ {f : List ℕ} {n : ℕ} {w w₁ : List ℕ} where
     runs = runs;
     again = λ T form q l s.
         let x = P.is T form q l s in
-        up_to_it form x.0.query rest q x.1
+        up_to_it form x.0.query rest q x.1 (beginning x.0)
         (again.made form (sought_run form.schema form.queries n (run_all form.schema form.queries)) (rw P.words l) x.0);
   }
 

@@ -47,11 +47,12 @@ pub record SpendsUpTo (f : List ℕ) (at k : ℕ) (w : List ℕ) (p p' : Purse) 
   pub made : (form : Form) (s : Sought) → min_words ≤ length w → (here : SoughtHere f w form at k s)
       → spent p' ≤ spent p + visits_up_to form.schema here.query k
 
--- None, or the run up to the n-th entry of the file.
+-- None, or the run up to the n-th entry of the file: that is the beginning of its query's whole run.
 pub data SpendsAgain (f : List ℕ) (n : ℕ) (p p' : Purse) : Type 0 where
   not_again : spent p' ≤ spent p → SpendsAgain f n p p'
   up_to_it : (form : Form) (a : Ast) (k : ℕ) → reading f ≡ described form → FallsIn form.schema form.queries n a k
-      → spent p' ≤ spent p + visits_up_to form.schema a k → SpendsAgain f n p p'
+      → visits_up_to form.schema a k ≤ run_visits (check max_visits form.schema a) → spent p' ≤ spent p + visits_up_to form.schema a k
+      → SpendsAgain f n p p'
 
 -- ---- The whole
 
