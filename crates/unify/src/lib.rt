@@ -18,9 +18,9 @@ use cells::{
 };
 use work::wide;
 
-// The visits that may be made: those left of the ceiling of now, and how many were given out in all. What was spent is
-// the difference. No one above takes visits back or makes a purse: it is lent, from the call's edge on, to whatever
-// comes to `unify` or `orderable`.
+/// The visits that may be made: those left of the ceiling of now, and how many were given out in all. What was spent is
+/// the difference. No one above takes visits back or makes a purse: it is lent, from the call's edge on, to whatever
+/// comes to `unify` or `orderable`.
 #[derive(Drop)]
 pub struct Purse {
     left: u32,
@@ -28,7 +28,7 @@ pub struct Purse {
 }
 
 impl Purse {
-    // For the edge of a call alone: tools/purse says who may name it.
+    /// For the edge of a call alone: tools/purse says who may name it.
     pub fn full(ceiling: u32) -> Self
         ensures { result ≡ record { left = ceiling; given = ceiling } }
     {
@@ -38,13 +38,14 @@ impl Purse {
         }
     }
 
+    /// The visits that may still be made.
     pub fn left(&self) -> u32
         ensures { result ≡ self.now.left }
     {
         self.left
     }
 
-    // Another ceiling. What was left is given back, so what was spent in all stays, as far as a u64 goes.
+    /// Another ceiling. What was left is given back, so what was spent in all stays, as far as a u64 goes.
     pub fn refill(&mut self, ceiling: u32)
         ensures left { self.new.left ≡ ceiling }
         ensures spent { spent self.new ≤ spent self.old }
