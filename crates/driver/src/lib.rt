@@ -1,5 +1,5 @@
-// The whole call: a file, a work slice and an answer slice, three parameters as document 01 and C have them, and the
-// purse of visits that the caller lends.
+// The whole call: a file, a work slice and an answer slice, three parameters as C has them, and the purse of visits that
+// the caller lends.
 #![tactic(auto)]
 
 ghost use Rattle.std.specs.Prelude.{[], ◌∷◌, ◌≡◌, ◌+◌, ◌-◌, ◌<◌, ◌≤◌, length};
