@@ -12,8 +12,8 @@ ghost use Rattle.checker.specs.Paid.{Pays, Notes};
 use cells::{Kind, Ty};
 use messages::Message;
 use state::{Run, Until};
-use unify::Purse;
 use tree::{Items, Node, Stmt, Stmts};
+use unify::Purse;
 use work::{Counters, put, word};
 
 // That a lower node is there is asked here, not in the type: `tree::field_at` and `item_at` do without it.

@@ -37,13 +37,7 @@ impl From<Result<usize, Unsolved>> for Inspected {
 }
 
 // The work slice holds anything afterwards.
-fn answer(
-    file: &[u8],
-    n: u32,
-    work: &mut [u32],
-    lent: &mut [u32],
-    purse: &mut Purse,
-) -> Inspected
+fn answer(file: &[u8], n: u32, work: &mut [u32], lent: &mut [u32], purse: &mut Purse) -> Inspected
     ensures is { Answers file.now n work.old lent.old work.new lent.new result }
     ensures spent { SpendsOnEntry file.now n (length work.old) purse.old purse.new }
 {

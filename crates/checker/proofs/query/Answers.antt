@@ -35,16 +35,41 @@ returns-in_err-stmts-clause-is c = rw c.from_residual.ensures
 
 -- What is left falls, and what was given out stays.
 pub returns-clause-pays : goal.returns-clause-pays
-returns-clause-pays c = pays_as _ _ {p' = c.infer.new.run.purse.now} (omega (arith, c.refill.ensures.left, c.refill.ensures.spent, c.stmts.ensures.lent.5, c.stmts.ensures.lent.8, c.check_head.ensures.lent.5,
-    c.check_head.ensures.lent.8, c.infer.ensures.lent.5, c.infer.ensures.lent.8)) (search rules)
+returns-clause-pays c = pays_as _ _ {p' = c.infer.new.run.purse.now} (omega (
+  arith,
+  c.refill.ensures.left,
+  c.refill.ensures.spent,
+  c.stmts.ensures.lent.5,
+  c.stmts.ensures.lent.8,
+  c.check_head.ensures.lent.5,
+  c.check_head.ensures.lent.8,
+  c.infer.ensures.lent.5,
+  c.infer.ensures.lent.8,
+)) (search rules)
 
 pub returns-in_err-infer-clause-pays : goal.returns-in_err-infer-clause-pays
-returns-in_err-infer-clause-pays c = pays_as _ _ {p' = c.infer.new.run.purse.now} (omega (arith, c.refill.ensures.left, c.refill.ensures.spent, c.stmts.ensures.lent.5, c.stmts.ensures.lent.8,
-    c.check_head.ensures.lent.5, c.check_head.ensures.lent.8, c.infer.ensures.lent.5, c.infer.ensures.lent.8)) (search rules)
+returns-in_err-infer-clause-pays c = pays_as _ _ {p' = c.infer.new.run.purse.now} (omega (
+  arith,
+  c.refill.ensures.left,
+  c.refill.ensures.spent,
+  c.stmts.ensures.lent.5,
+  c.stmts.ensures.lent.8,
+  c.check_head.ensures.lent.5,
+  c.check_head.ensures.lent.8,
+  c.infer.ensures.lent.5,
+  c.infer.ensures.lent.8,
+)) (search rules)
 
 pub returns-in_err-check_head-clause-pays : goal.returns-in_err-check_head-clause-pays
-returns-in_err-check_head-clause-pays c = pays_as _ _ {p' = c.check_head.new.run.purse.now} (omega (arith, c.refill.ensures.left, c.refill.ensures.spent, c.stmts.ensures.lent.5, c.stmts.ensures.lent.8,
-    c.check_head.ensures.lent.5, c.check_head.ensures.lent.8)) (search rules)
+returns-in_err-check_head-clause-pays c = pays_as _ _ {p' = c.check_head.new.run.purse.now} (omega (
+  arith,
+  c.refill.ensures.left,
+  c.refill.ensures.spent,
+  c.stmts.ensures.lent.5,
+  c.stmts.ensures.lent.8,
+  c.check_head.ensures.lent.5,
+  c.check_head.ensures.lent.8,
+)) (search rules)
 
 pub returns-in_err-stmts-clause-pays : goal.returns-in_err-stmts-clause-pays
 returns-in_err-stmts-clause-pays c = pays_as _ _ {p' = c.stmts.new.run.purse.now} (omega (arith, c.refill.ensures.left, c.refill.ensures.spent, c.stmts.ensures.lent.5, c.stmts.ensures.lent.8)) (search rules)
