@@ -13,7 +13,7 @@ use std::env::Env;
 use std::fs::{Files, OpenOptions};
 use std::io::{ErrorKind, Read, Write};
 use std::process::ExitCode;
-use std::str;
+use std::{io, str};
 
 const PAGE: Page = Page {
     name: "sigla_growth",
@@ -40,6 +40,38 @@ fn open_named<F: Env + Files>(rt: &F, i: usize) -> Option<F::File> {
         }
     }
     None
+}
+
+// The file that an argument names, opened when it is first read: the old one is read to its end and closed before the
+// new one is opened, so that both may come through pipes of one writer. One that can't be opened has no bytes.
+#[derive(Drop)]
+struct Named<'a, F: Env + Files> {
+    rt: &'a F,
+    word: usize,
+    // None before the first read.
+    file: Option<Option<F::File>>,
+}
+
+impl<'a, F: Env + Files> Named<'a, F> {
+    fn at(rt: &'a F, word: usize) -> Self {
+        Named {
+            rt,
+            word,
+            file: None,
+        }
+    }
+}
+
+impl<F: Env + Files> Read for Named<'_, F> {
+    fn read(&mut self, into: &mut [u8]) -> io::Result<usize> {
+        if self.file.is_none() {
+            self.file = Some(open_named(self.rt, self.word));
+        }
+        match &mut self.file {
+            Some(Some(file)) => file.read(into),
+            _ => Ok(0),
+        }
+    }
 }
 
 // How much of a file stands at the start of a slice: nothing of it where reading it failed.
@@ -120,9 +152,9 @@ fn run<R: Read + Drop, W: Write>(
 }
 
 fn main(rt: HostRuntime) -> ExitCode {
-    let old = open_named(&rt, 1);
-    let new = open_named(&rt, 2);
     let request = input::requested(&rt, None);
+    let old = Some(Named::at(&rt, 1));
+    let new = Some(Named::at(&rt, 2));
     run(&rt, request, &PAGE, old, new, &mut rt.stdout())
 }
 
