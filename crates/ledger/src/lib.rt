@@ -10,9 +10,7 @@ use tariff::Tally;
 
 // No impls of `From`: a group and a tally are other crates' types (orphan-impl), and those crates know of no words.
 
-// The count, the pool, and of each desk the share, the cap and the use. Out of line: a caller with all fifty numbers in
-// its hands keeps them one by one.
-#[inline(never)]
+// The count, the pool, and of each desk the share, the cap and the use.
 pub fn group(words: &[u32; 50]) -> Group
     ensures { result ≡ group_of words.now }
 {

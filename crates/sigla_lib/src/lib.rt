@@ -5,6 +5,7 @@
 ghost use Rattle.sigla_lib.specs.Numbers.{CallsCheck, CallsLamp, CallsInspect, CallsWiden, CallsNarrow, CallsTally, CallsSetUp, CallsCeiling, CallsNewDay, CallsCheckAt, CallsGrowth, CallsLoad, outcome_number, or_else, version_number};
 ghost use Rattle.cabinet.specs.Promises.{left};
 ghost use Rattle.format.specs.Refusal.{number};
+ghost use Rattle.ledger.specs.Words.{group_of};
 ghost use Rattle.reading.specs.Promises.{refusal};
 ghost use Rattle.std.specs.Prelude.{◌≡◌};
 
@@ -189,13 +190,21 @@ pub extern "C" fn sigla_set_up(group: &mut [u32; 50], pool: u32, shares: &[u32],
     number
 }
 
+// Out of line: with all fifty numbers at hand `sigla_ceiling` keeps them one by one, and takes half as long again.
+#[inline(never)]
+fn group_of(words: &[u32; 50]) -> Group
+    ensures { result ≡ group_of words.now }
+{
+    ledger::group(words)
+}
+
 // The visits that a desk may make now.
 #[unsafe(no_mangle)]
 pub extern "C" fn sigla_ceiling(group: &[u32; 50], desk: usize, visits: &mut u32) -> u8
     ensures { CallsCeiling group.now desk visits.new result }
 {
     let (n, number) = left(
-        ledger::group(group).ceiling(desk).ok_or(0),
+        group_of(group).ceiling(desk).ok_or(0),
         Refusal::OutsideTheRules,
     );
     *visits = n;
