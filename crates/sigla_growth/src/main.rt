@@ -2,7 +2,9 @@
 // names: the line 00, or that of the first premise that fails.
 #![tactic(auto)]
 
-ghost use Rattle.std.specs.Prelude.{◌≡◌, ◌≤◌, length, take, Err, IfSome, OnOk};
+ghost use Rattle.std.specs.Prelude.{◌≡◌, ◌≤◌, length, take, Err, IfSome, None, Ok, OnOk, Some};
+ghost use Rattle.std.specs.Io.{ReadsAtMost};
+ghost use Rattle.std.specs.Io.KnownBytes.{ReadConsumes};
 ghost use Rattle.std.specs.Process.{exit_status};
 ghost use Rattle.input.specs.declared.Failure.{Failure};
 ghost use Rattle.input.specs.Endings.{EndsBy};
@@ -63,7 +65,11 @@ impl<'a, F: Env + Files> Named<'a, F> {
 }
 
 impl<F: Env + Files> Read for Named<'_, F> {
-    fn read(&mut self, into: &mut [u8]) -> io::Result<usize> {
+    fn read(&mut self, into: &mut [u8]) -> io::Result<usize>
+        ensures bound { ReadsAtMost result into.new }
+        ensures bytes { ReadConsumes None None result into.new }
+        ensures absent { self.new.file ≡ Some None → result ≡ Ok 0 }
+    {
         if self.file.is_none() {
             self.file = Some(open_named(self.rt, self.word));
         }
