@@ -2,7 +2,7 @@
 // names: the line 00, or that of the first premise that fails.
 #![tactic(auto)]
 
-ghost use Rattle.std.specs.Prelude.{◌≡◌, ◌≤◌, length, take, Err, IfSome, None, Ok, OnOk, Some};
+ghost use Rattle.std.specs.Prelude.{◌≡◌, ◌≤◌, length, take, Err, IfSome, IsSome, None, Ok, OnOk, Some};
 ghost use Rattle.std.specs.Io.{ReadsAtMost};
 ghost use Rattle.std.specs.Io.KnownBytes.{ReadConsumes};
 ghost use Rattle.std.specs.Process.{exit_status};
@@ -65,9 +65,11 @@ impl<'a, F: Env + Files> Named<'a, F> {
 }
 
 impl<F: Env + Files> Read for Named<'_, F> {
+    // `bound` and `bytes` are the trait's, for a reader whose bytes are not known.
     fn read(&mut self, into: &mut [u8]) -> io::Result<usize>
         ensures bound { ReadsAtMost result into.new }
         ensures bytes { ReadConsumes None None result into.new }
+        ensures opened { IsSome self.new.file }
         ensures absent { self.new.file ≡ Some None → result ≡ Ok 0 }
     {
         if self.file.is_none() {
